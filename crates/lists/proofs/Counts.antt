@@ -1,0 +1,116 @@
+-- Counts: cell by cell, by one more value, by storing, their sum, and under a reordering. Assumes nothing.
+use mathlib.Core.Path.{_≡_, refl, sym, ap, _∙_}
+use mathlib.Core.Bool.{Bool, cond}
+use mathlib.Core.List.{List, [], _∷_, _++_, map, List·Permᴰ, List·Permᴰ·nil, List·Permᴰ·cons, List·Permᴰ·swap, List·Permᴰ·trans, Permᴰ·middle, append-nil}
+use Prim.Native.Nat.{ℕ, zero, suc, _+_, _<_}
+use native.Mathlib.Nat.{add-zero, zero-add, add-left-comm, add-suc, suc-add, le-of-suc-le-suc, not-suc-le-zero}
+use native.Mathlib.Omega.{arith}
+use native.Mathlib.Decide.{ℕ-discrete}
+use borrow.Author.Tests.{eq-eqb, ne-eqb}
+use lib.Dec.{eqb}
+use lib.ListN.{length, getD, replicate, length-set, length-replicate, getD-replicate, length-map}
+use lib.Seq.{ext-getD, getD-set-same, getD-set-other}
+use Rattle.spec.specs.Lists.{placesFrom, places, countOf, counts, added, stored, sumOf}
+
+-- ---- cells
+
+places-length : (i n : ℕ) → length (placesFrom i n) ≡ n
+unfolding placesFrom
+places-length i zero = refl
+places-length i (suc n) = ap suc (places-length (suc i) n)
+
+map-at : (f : ℕ → ℕ) (i n k : ℕ) → k < n → getD (map f (placesFrom i n)) k 0 ≡ f (i + k)
+unfolding placesFrom
+map-at f i zero k h = absurd (not-suc-le-zero h)
+map-at f i (suc n) zero h = ap f (sym (add-zero i))
+map-at f i (suc n) (suc k) h = map-at f (suc i) n k (le-of-suc-le-suc h) ∙ ap f (suc-add i k ∙ sym (add-suc i k))
+
+pub counts-length : (n : ℕ) (xs : List ℕ) → length (counts n xs) ≡ n
+unfolding counts
+counts-length n xs = length-map (places n) (λ b. countOf b xs) ∙ places-length 0 n
+
+pub counts-at : (n : ℕ) (xs : List ℕ) (k : ℕ) → k < n → getD (counts n xs) k 0 ≡ countOf k xs
+unfolding counts
+counts-at n xs k h = map-at (λ b. countOf b xs) 0 n k h ∙ ap (λ (j : ℕ). countOf j xs) (zero-add k)
+
+-- a list of n numbers whose cells are counts
+pub counts-from-cells : (n : ℕ) (h xs : List ℕ) → length h ≡ n → ((k : ℕ) → k < n → getD h k 0 ≡ countOf k xs) → h ≡ counts n xs
+counts-from-cells n h xs e f =
+    ext-getD 0 h (counts n xs) (e ∙ sym (counts-length n xs)) (λ k b. let g : k < n = omega arith in f k g ∙ sym (counts-at n xs k g))
+
+-- ---- one more value
+
+count-here : (b : ℕ) (xs : List ℕ) → countOf b (b ∷ xs) ≡ countOf b xs + 1
+unfolding countOf
+count-here b xs = ap (λ (t : Bool). cond t 1 0 + countOf b xs) (eq-eqb b b refl) ∙ omega arith
+
+count-other : (k b : ℕ) (xs : List ℕ) → (k ≡ b → ⊥) → countOf k (b ∷ xs) ≡ countOf k xs
+unfolding countOf
+count-other k b xs d = ap (λ (t : Bool). cond t 1 0 + countOf k xs) (ne-eqb b k (λ e. d (sym e))) ∙ omega arith
+
+cell-added : (b k : ℕ) (h : List ℕ) → b < length h → Dec (k ≡ b) → (c : ℕ → ℕ) → ((j : ℕ) → j < length h → getD h j 0 ≡ c j) → k < length h → (d : ℕ → ℕ) →
+    (d b ≡ c b + 1) → ((k ≡ b → ⊥) → d k ≡ c k) → getD (added b h) k 0 ≡ d k
+cell-added b k h i (yes e) c f j d p q =
+    ap (λ (m : ℕ). getD (added b h) m 0) e ∙ getD-set-same h b (getD h b 0 + 1) 0 i ∙ ap (λ (m : ℕ). m + 1) (f b i) ∙ sym p ∙ ap d (sym e)
+cell-added b k h i (no e) c f j d p q = getD-set-other h b k (getD h b 0 + 1) 0 e ∙ f k j ∙ sym (q e)
+
+-- a value more, in front: the counts with one more in its cell
+pub counts-cons : (n b : ℕ) (xs : List ℕ) → b < n → added b (counts n xs) ≡ counts n (b ∷ xs)
+counts-cons n b xs h =
+    counts-from-cells n (added b (counts n xs)) (b ∷ xs) (length-set (counts n xs) b (getD (counts n xs) b 0 + 1) ∙ counts-length n xs)
+    (λ k g. cell-added b k (counts n xs) (omega (arith, counts-length n xs)) (ℕ-discrete k b) (λ j. countOf j xs)
+      (λ j l. counts-at n xs j (omega (arith, counts-length n xs))) (omega (arith, counts-length n xs)) (λ j. countOf j (b ∷ xs)) (count-here b xs) (count-other k b xs))
+
+-- ---- under a reordering
+
+pub count-perm : (b : ℕ) {xs ys : List ℕ} → List·Permᴰ xs ys → countOf b xs ≡ countOf b ys
+unfolding countOf
+count-perm b List·Permᴰ·nil = refl
+count-perm b (List·Permᴰ·cons {a = x} {l₂ = ys} e p) = ap (λ (n : ℕ). cond (eqb x b) 1 0 + n) (count-perm b p) ∙ ap (λ (m : ℕ). cond (eqb m b) 1 0 + countOf b ys) e
+count-perm b (List·Permᴰ·swap {a = x} {b = y} {a′ = z} {l = l} e f) =
+    add-left-comm (cond (eqb x b) 1 0) (cond (eqb y b) 1 0) (countOf b l)
+    ∙ ap (λ (m : ℕ). cond (eqb m b) 1 0 + (cond (eqb x b) 1 0 + countOf b l)) f ∙ ap (λ (m : ℕ). cond (eqb z b) 1 0 + (cond (eqb m b) 1 0 + countOf b l)) e
+count-perm b (List·Permᴰ·trans p q) = count-perm b p ∙ count-perm b q
+
+pub counts-perm : (n : ℕ) {xs ys : List ℕ} → List·Permᴰ xs ys → counts n xs ≡ counts n ys
+counts-perm n {xs} {ys} p = counts-from-cells n (counts n xs) ys (counts-length n xs) (λ k h. counts-at n xs k h ∙ count-perm k p)
+
+-- ---- by storing
+
+abbrev pub Below : ℕ → List ℕ → Type 0
+Below n [] = Unit
+Below n (x ∷ xs) = (x < n) × Below n xs
+
+pub stored-more : (n : ℕ) (xs ys : List ℕ) → Below n xs → stored (counts n ys) xs ≡ counts n (xs ++ ys)
+unfolding stored
+stored-more n [] ys b = refl
+stored-more n (x ∷ xs) ys b =
+    ap (λ (h : List ℕ). stored h xs) (counts-cons n x ys (b .0)) ∙ stored-more n xs (x ∷ ys) (b .1) ∙ counts-perm n (Permᴰ·middle x xs ys)
+
+counts-none : (n : ℕ) → replicate n 0 ≡ counts n []
+unfolding countOf
+counts-none n = counts-from-cells n (replicate n 0) [] (length-replicate n 0) (λ k h. getD-replicate n k 0 0 h)
+
+-- counting and storing give the same
+pub stored-counts : (n : ℕ) (xs : List ℕ) → Below n xs → stored (replicate n 0) xs ≡ counts n xs
+stored-counts n xs b = ap (λ (h : List ℕ). stored h xs) (counts-none n) ∙ stored-more n xs [] b ∙ ap (counts n) (append-nil xs)
+
+-- ---- the sum
+
+sum-added : (h : List ℕ) (b : ℕ) → b < length h → sumOf (added b h) ≡ sumOf h + 1
+unfolding sumOf
+sum-added [] b i = absurd (not-suc-le-zero i)
+sum-added (x ∷ h) zero i = omega arith
+sum-added (x ∷ h) (suc b) i = ap (λ (m : ℕ). x + m) (sum-added h b (le-of-suc-le-suc i)) ∙ omega arith
+
+sum-zeros : (n : ℕ) → sumOf (replicate n 0) ≡ 0
+unfolding sumOf
+sum-zeros zero = refl
+sum-zeros (suc n) = zero-add (sumOf (replicate n 0)) ∙ sum-zeros n
+
+-- "The bins sum to the valid count."
+pub counts-sum : (n : ℕ) (xs : List ℕ) → Below n xs → sumOf (counts n xs) ≡ length xs
+counts-sum n [] b = ap sumOf (sym (counts-none n)) ∙ sum-zeros n
+counts-sum n (x ∷ xs) b =
+    ap sumOf (sym (counts-cons n x xs (b .0))) ∙ sum-added (counts n xs) x (omega (arith, counts-length n xs, b .0))
+    ∙ ap (λ (m : ℕ). m + 1) (counts-sum n xs (b .1)) ∙ omega arith

@@ -1,0 +1,5 @@
+pub mod Counts
+pub mod Reorder
+pub mod Rows
+pub mod Stored
+pub mod Table

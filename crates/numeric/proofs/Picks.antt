@@ -1,0 +1,98 @@
+-- `larger`, `smaller` and `held` keep the order and lie where they should, and a cast to an unsigned integer keeps the order. Assumes nothing.
+use mathlib.Core.Path.{sym, subst}
+use Prim.Native.Nat.{ℕ, _-_, _*_, _/_, _^_, _≤_, _<_, zero-le}
+use native.Mathlib.Nat.{zero-div}
+use native.Mathlib.Omega.{arith}
+use mathlib.Core.Bool.{Bool, true, false, not, cond}
+use lib.Dec.{T}
+use lib.Ieee.{Float, nan, inf, fin, up, down, lt, le, toUnsigned}
+use lib.Ieee.Casts.{toUnsigned-lt}
+use lib.Ieee.Fits.{down-pos}
+use lib.Ieee.Nearest.{div-mono}
+use Rattle.spec.specs.Floats.{larger, smaller, held}
+use Rattle.numeric.proofs.Order.{Number, le→cross, le-left, le-right, le-refl, le-trans, le-of-lt, le-of-not-lt, only-top}
+
+-- ---- the larger
+pub larger-le : (b x y : Float) → Number b → T (le x y) → T (le (larger x b) (larger y b))
+larger-le b x y q h = go (lt b x) (lt b y) (le-of-not-lt b y q (le-right x y h)) (le-of-lt b y)
+  where
+    go : (u v : Bool) → (T (not v) → T (le y b)) → (T v → T (le b y)) → T (le (cond u x b) (cond v y b))
+    go true true f g = h
+    go true false f g = le-trans x y b h (f tt)
+    go false true f g = g tt
+    go false false f g = le-refl b q
+
+pub either : (P : Float → Type 0) (b : Bool) (x y : Float) → P x → P y → P (cond b x y)
+either P true x y p q = p
+either P false x y p q = q
+
+pub above-larger : (a b : Float) → Number b → T (le b (larger a b))
+above-larger a b q = go (lt b a) (le-of-lt b a)
+  where
+    go : (u : Bool) → (T u → T (le b a)) → T (le b (cond u a b))
+    go true f = f tt
+    go false f = le-refl b q
+
+pub above-larger-left : (a b : Float) → Number a → Number b → T (le a (larger a b))
+above-larger-left a b p q = go (lt b a) (le-of-not-lt b a q p)
+  where
+    go : (u : Bool) → (T (not u) → T (le a b)) → T (le a (cond u a b))
+    go true f = le-refl a p
+    go false f = f tt
+
+-- ---- the smaller
+pub smaller-le : (b x y : Float) → Number b → T (le x y) → T (le (smaller x b) (smaller y b))
+smaller-le b x y q h = go (lt x b) (lt y b) (le-of-not-lt x b (le-left x y h) q) (le-of-lt x b)
+  where
+    go : (u v : Bool) → (T (not u) → T (le b x)) → (T u → T (le x b)) → T (le (cond u x b) (cond v y b))
+    go true true f g = h
+    go true false f g = g tt
+    go false true f g = le-trans b x y (f tt) h
+    go false false f g = le-refl b q
+
+pub under-smaller : (a b : Float) → Number b → T (le (smaller a b) b)
+under-smaller a b q = go (lt a b) (le-of-lt a b)
+  where
+    go : (u : Bool) → (T u → T (le a b)) → T (le (cond u a b) b)
+    go true f = f tt
+    go false f = le-refl b q
+
+pub under-smaller-left : (a b : Float) → Number a → Number b → T (le (smaller a b) a)
+under-smaller-left a b p q = go (lt a b) (le-of-not-lt a b p q)
+  where
+    go : (u : Bool) → (T (not u) → T (le b a)) → T (le (cond u a b) a)
+    go true f = le-refl a p
+    go false f = f tt
+
+-- ---- held between: whatever x is, a NaN too
+pub clamped-le : (lo hi x y : Float) → Number lo → Number hi → T (le x y) → T (le (held lo hi x) (held lo hi y))
+clamped-le lo hi x y p q h = smaller-le hi (larger x lo) (larger y lo) q (larger-le lo x y p h)
+
+pub clamped-hi : (x lo hi : Float) → Number hi → T (le (held lo hi x) hi)
+clamped-hi x lo hi q = under-smaller (larger x lo) hi q
+
+pub clamped-lo : (x lo hi : Float) → T (le lo hi) → T (le lo (held lo hi x))
+clamped-lo x lo hi h = either (λ (z : Float). T (le lo z)) (lt (larger x lo) hi) (larger x lo) hi (above-larger x lo (le-left lo hi h)) h
+
+-- ---- `as u64`
+room : (w a : ℕ) → a < 2 ^ w → a ≤ 2 ^ w - 1
+room w a h = omega arith
+
+pub toUnsigned-le : (w : ℕ) (x y : Float) → T (le x y) → toUnsigned w x ≤ toUnsigned w y
+unfolding toUnsigned le
+toUnsigned-le w nan y h = absurd h
+toUnsigned-le w (inf true) y h = zero-le
+toUnsigned-le w (inf false) y h = subst (λ (z : Float). 2 ^ w - 1 ≤ toUnsigned w z) (sym (only-top y h)) (omega arith)
+toUnsigned-le w (fin s m e) nan h = absurd h
+toUnsigned-le w (fin s m e) (inf true) h = absurd h
+toUnsigned-le w (fin s m e) (inf false) h = room w (toUnsigned w (fin s m e)) (toUnsigned-lt w (fin s m e))
+toUnsigned-le w (fin true m e) (fin t n d) h = zero-le
+toUnsigned-le w (fin false m e) (fin true n d) h =
+    let k = le→cross (fin false m e) (fin true n d) tt tt h in
+    let a : m * up e / down e ≤ 0 / down d = div-mono (m * up e) (down e) 0 (down d) (down-pos e) (down-pos d) (omega arith) in
+    let b = zero-div (down d) in
+    omega arith
+toUnsigned-le w (fin false m e) (fin false n d) h =
+    let k = le→cross (fin false m e) (fin false n d) tt tt h in
+    let a : m * up e / down e ≤ n * up d / down d = div-mono (m * up e) (down e) (n * up d) (down d) (down-pos e) (down-pos d) (omega arith) in
+    omega arith

@@ -1,0 +1,56 @@
+-- The grey calls. Definitions only.
+use Prim.Native.Nat.{ℕ, _*_}
+use mathlib.Core.Bool.{Bool, cond, _||_}
+use mathlib.Core.List.{List, [], _∷_, map}
+use lib.Ieee.{Float}
+use Rattle.types.specs.declared.AutoscaleStrategy.{AutoscaleStrategy}
+use Rattle.types.specs.declared.WindowAnswer.{WindowAnswer}
+use Rattle.types.specs.declared.WindowAnswer.the-variants.{Window, Blank, Refused}
+use Rattle.spec.specs.Answer.{Answer, firstOf, answer}
+use Rattle.spec.specs.Pixels.{Pixel, off, on, pixels}
+use Rattle.spec.specs.Refusals.{tooWide, notNamed, unlike, workUnlike, badMark, badDecibel, badTiles}
+use Rattle.spec.specs.Strategies.{isClahe}
+use Rattle.spec.specs.Statistics.{statisticsOf}
+use Rattle.spec.specs.Window.{windowOf, otherGamma}
+use Rattle.spec.specs.Value.{full8, full16, normalised, paint}
+use Rattle.spec.specs.Stretch.{stretch}
+use Rattle.spec.specs.Clahe.{claheValues}
+
+-- a band as Clahe takes it
+unfoldable pub normalPixel : Float → Float → Float → Pixel → Pixel
+normalPixel low high range off = off
+normalPixel low high range (on v) = on (normalised low high range v)
+
+-- "its pixels are 0"
+unfoldable pub black : List Pixel → List ℕ
+black px = map (λ p. 0) px
+
+-- the values of a band from its window, before any stretch
+unfoldable pub values : Float → AutoscaleStrategy → ℕ → ℕ → List Pixel → WindowAnswer → List ℕ
+values full strategy rows cols px Blank = black px
+values full strategy rows cols px (Refused k) = black px
+values full strategy rows cols px (Window low high range gamma) =
+    let tiles = claheValues full rows cols (map (normalPixel low high range) px) in
+    let plain = map (paint full low high range) px in
+    cond (isClahe strategy) tiles plain
+
+-- the six tests of a grey call
+unfoldable pub greyTests : AutoscaleStrategy → ℕ → ℕ → List ℕ → List Float → ℕ → ℕ → List Pixel → WindowAnswer → List Bool
+greyTests strategy rows cols marks db out work px w =
+    tooWide rows cols ∷ (notNamed rows cols marks db || unlike out (rows * cols) || workUnlike strategy work) ∷ badMark marks
+    ∷ badDecibel px ∷ badTiles strategy rows cols px ∷ otherGamma w ∷ []
+
+-- "At U8, `scale_u16_to_u8` then stretches all n bytes"; out and work are lent lengths
+unfoldable pub grey8 : AutoscaleStrategy → ℕ → ℕ → List ℕ → List Float → ℕ → ℕ → Answer (List ℕ)
+grey8 strategy rows cols marks db out work =
+    let px = pixels marks db in
+    let w = windowOf strategy (statisticsOf px) in
+    let greys = stretch (values full8 strategy rows cols px w) in
+    answer (firstOf 1 (greyTests strategy rows cols marks db out work px w)) greys
+
+unfoldable pub grey16 : AutoscaleStrategy → ℕ → ℕ → List ℕ → List Float → ℕ → ℕ → Answer (List ℕ)
+grey16 strategy rows cols marks db out work =
+    let px = pixels marks db in
+    let w = windowOf strategy (statisticsOf px) in
+    let greys = values full16 strategy rows cols px w in
+    answer (firstOf 1 (greyTests strategy rows cols marks db out work px w)) greys

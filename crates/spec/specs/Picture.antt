@@ -1,0 +1,65 @@
+-- The picture call: "both go to U8, into two lent grey outputs, then colours". Definitions only.
+use Prim.Native.Nat.{ℕ, _*_}
+use mathlib.Core.Bool.{Bool, true, false, cond, _||_}
+use mathlib.Core.List.{List, [], _∷_}
+use lib.Ieee.{Float}
+use Rattle.types.specs.declared.AutoscaleStrategy.{AutoscaleStrategy}
+use Rattle.types.specs.declared.SyntheticRgbMode.{SyntheticRgbMode}
+use Rattle.types.specs.declared.Rgb.{Rgb}
+use Rattle.types.specs.declared.WindowAnswer.{WindowAnswer}
+use Rattle.spec.specs.Answer.{Answer, firstOf, answer}
+use Rattle.spec.specs.Pixels.{Pixel, pixels}
+use Rattle.spec.specs.Refusals.{tooWide, notNamed, unlike, workUnlike, badMark, badDecibel, badTiles}
+use Rattle.spec.specs.Strategies.{isTamed}
+use Rattle.spec.specs.Statistics.{statisticsOf}
+use Rattle.spec.specs.Window.{pictureWindow, otherGamma}
+use Rattle.spec.specs.Value.{full8}
+use Rattle.spec.specs.Stretch.{stretch}
+use Rattle.spec.specs.Grey.{values}
+use Rattle.spec.specs.Colour.{coloursOf}
+
+-- two greys and a colour of each pixel
+pub record Picture : Type 0 where
+  pub grey1 : List ℕ
+  pub grey2 : List ℕ
+  pub colours : List Rgb
+
+-- the lengths lent: two grey outputs, colours, work
+pub record Lent : Type 0 where
+  pub grey1 : ℕ
+  pub grey2 : ℕ
+  pub colours : ℕ
+  pub work : ℕ
+
+-- the U8 greys of one band of a picture; Tamed: "no stretch"
+unfoldable pub pictureGreys : AutoscaleStrategy → ℕ → ℕ → List Pixel → WindowAnswer → List ℕ
+pictureGreys strategy rows cols px w =
+    let raw = values full8 strategy rows cols px w in
+    cond (isTamed strategy) raw (stretch raw)
+
+-- the colours follow the two grey outputs
+unfoldable pub composed : AutoscaleStrategy → List ℕ → List ℕ → Picture
+composed strategy g1 g2 = record { grey1 = g1; grey2 = g2; colours = coloursOf strategy g1 g2 }
+
+-- each test over both bands: "The smallest number that applies to any band"
+unfoldable pub pictureTests :
+    AutoscaleStrategy → ℕ → ℕ → List ℕ → List Float → List ℕ → List Float → Lent → List Pixel → List Pixel → WindowAnswer → WindowAnswer → List Bool
+pictureTests strategy rows cols marks1 db1 marks2 db2 lent px1 px2 w1 w2 =
+    tooWide rows cols
+    ∷ (notNamed rows cols marks1 db1 || notNamed rows cols marks2 db2 || unlike (lent .grey1) (rows * cols)
+       || unlike (lent .grey2) (rows * cols) || unlike (lent .colours) (3 * (rows * cols)) || workUnlike strategy (lent .work))
+    ∷ (badMark marks1 || badMark marks2)
+    ∷ (badDecibel px1 || badDecibel px2)
+    ∷ (badTiles strategy rows cols px1 || badTiles strategy rows cols px2)
+    ∷ (otherGamma w1 || otherGamma w2)
+    ∷ []
+
+-- "band 1 counts as co-pol under Tamed"
+unfoldable pub pictureOf : AutoscaleStrategy → SyntheticRgbMode → ℕ → ℕ → List ℕ → List Float → List ℕ → List Float → Lent → Answer Picture
+pictureOf strategy mode rows cols marks1 db1 marks2 db2 lent =
+    let px1 = pixels marks1 db1 in
+    let px2 = pixels marks2 db2 in
+    let w1 = pictureWindow strategy true (statisticsOf px1) in
+    let w2 = pictureWindow strategy false (statisticsOf px2) in
+    let painted = composed strategy (pictureGreys strategy rows cols px1 w1) (pictureGreys strategy rows cols px2 w2) in
+    answer (firstOf 1 (pictureTests strategy rows cols marks1 db1 marks2 db2 lent px1 px2 w1 w2)) painted

@@ -1,0 +1,86 @@
+-- "The statistics are one record of a count and fifteen floats." Definitions only.
+use Prim.Native.Nat.{ℕ}
+use mathlib.Core.Bool.{cond}
+use mathlib.Core.List.{List, [], _∷_, map}
+use lib.Dec.{ltb}
+use lib.Ieee.{Float, binary64, sub, div, lt, ofBits}
+use Rattle.types.specs.declared.HistogramStats.{HistogramStats}
+use Rattle.types.specs.declared.Moments.{Moments}
+use Rattle.types.specs.declared.Percentile.{Percentile}
+use Rattle.types.specs.declared.StatisticsAnswer.{StatisticsAnswer}
+use Rattle.types.specs.declared.StatisticsAnswer.the-variants.{Statistics, Refused}
+use Rattle.spec.specs.Floats.{zero64, half64, one64, ofCount}
+use Rattle.spec.specs.Root.{root}
+use Rattle.spec.specs.Answer.{Answer, refused, done, firstOf, answer}
+use Rattle.spec.specs.Pixels.{Pixel, pixels, validOf}
+use Rattle.spec.specs.Refusals.{tooWide, notNamed, badMark, badDecibel}
+use Rattle.spec.specs.Moments.{noMoments, momentsFrom}
+use Rattle.spec.specs.Bins.{bins64, binOf, histogram}
+use Rattle.spec.specs.Percentile.{percentile}
+
+-- "deviation = root of m2/count, 0 for count 1"
+unfoldable pub deviationOf : Moments → Float
+deviationOf s = cond (ltb 1 (s .count)) (root (div binary64 (s .m2) (ofCount (s .count)))) zero64
+
+-- moments and percentiles as one record
+unfoldable pub gathered : Moments → (Float → Percentile) → HistogramStats
+gathered s p =
+    record {
+      «valid_count» = s .count;
+      «min_db» = s .«min_db»;
+      «max_db» = s .«max_db»;
+      «mean_db» = s .mean;
+      «std_db» = deviationOf s;
+      «median_db» = p half64 .value;
+      p01 = p (ofBits binary64 0x3f84_7ae1_47ae_147b) .value;
+      p02 = p (ofBits binary64 0x3f94_7ae1_47ae_147b) .value;
+      p05 = p (ofBits binary64 0x3fa9_9999_9999_999a) .value;
+      p10 = p (ofBits binary64 0x3fb9_9999_9999_999a) .value;
+      p25 = p (ofBits binary64 0x3fd0_0000_0000_0000) .value;
+      p75 = p (ofBits binary64 0x3fe8_0000_0000_0000) .value;
+      p90 = p (ofBits binary64 0x3fec_cccc_cccc_cccd) .value;
+      p95 = p (ofBits binary64 0x3fee_6666_6666_6666) .value;
+      p98 = p (ofBits binary64 0x3fef_5c28_f5c2_8f5c) .value;
+      p99 = p (ofBits binary64 0x3fef_ae14_7ae1_47ae) .value
+    }
+
+-- "median, p01 to p25 are min; p75 to p99 are max"
+unfoldable pub flatPercentile : Moments → Float → Percentile
+flatPercentile s p = record { value = cond (lt half64 p) (s .«max_db») (s .«min_db») }
+
+-- 2^-52
+abbrev pub flat64 : Float
+flat64 = ofBits binary64 0x3cb0_0000_0000_0000
+
+-- "inv = 1/span", the bins of the values, "width = span/4096"
+unfoldable pub spreadPercentile : Moments → Float → List Float → Float → Percentile
+spreadPercentile s span vs =
+    percentile (s .«min_db») (div binary64 span bins64) (s .count) (histogram (map (binOf (s .«min_db») (div binary64 one64 span)) vs))
+
+-- "If max - min < 2^-52: .. no histogram. Else .."
+unfoldable pub summary : Moments → List Float → HistogramStats
+summary s vs =
+    let span = sub binary64 (s .«max_db») (s .«min_db») in
+    let flat = gathered s (flatPercentile s) in
+    let spread = gathered s (spreadPercentile s span vs) in
+    cond (lt span flat64) flat spread
+
+-- of the valid dB. "With no valid pixel the count and all floats are 0": the moments of no value are zeros, and flat.
+unfoldable pub summaryOf : List Float → HistogramStats
+summaryOf vs = summary (momentsFrom noMoments vs) vs
+
+-- the statistics of a band
+unfoldable pub statisticsOf : List Pixel → HistogramStats
+statisticsOf px = summaryOf (validOf px)
+
+-- the statistics call: refusals 1 to 4, then the record
+unfoldable pub statisticsCall : ℕ → ℕ → List ℕ → List Float → Answer HistogramStats
+statisticsCall rows cols marks db =
+    let px = pixels marks db in
+    let stats = statisticsOf px in
+    answer (firstOf 1 (tooWide rows cols ∷ notNamed rows cols marks db ∷ badMark marks ∷ badDecibel px ∷ [])) stats
+
+-- document 01's number and values for each case of the declared answer
+unfoldable pub readStatistics : StatisticsAnswer → Answer HistogramStats
+readStatistics (Statistics s) = done s
+readStatistics (Refused k) = refused k

@@ -1,0 +1,116 @@
+// The enums of types.rs that the calls take, in its order, and the declared answers and records that calls and their parts give.
+
+pub enum PolarizationOperation {
+    Sum,
+    Diff,
+    Ratio,
+    NDiff,
+    LogRatio,
+}
+
+pub enum AutoscaleStrategy {
+    Standard,
+    Robust,
+    Adaptive,
+    Equalized,
+    Clahe,
+    Tamed,
+    Default,
+}
+
+pub enum BitDepth {
+    U8,
+    U16,
+}
+
+pub enum SyntheticRgbMode {
+    Default,
+    RgbRatio,
+    SarUrban,
+    Enhanced,
+}
+
+// Done, or a number of the table of replies.
+pub enum Reply {
+    Done,
+    Refused(u8),
+}
+
+// "The statistics are one record of a count and fifteen floats", with the Rust's field names.
+pub struct HistogramStats {
+    pub valid_count: usize,
+    pub min_db: f64,
+    pub max_db: f64,
+    pub mean_db: f64,
+    pub std_db: f64,
+    pub median_db: f64,
+    pub p01: f64,
+    pub p02: f64,
+    pub p05: f64,
+    pub p10: f64,
+    pub p25: f64,
+    pub p75: f64,
+    pub p90: f64,
+    pub p95: f64,
+    pub p98: f64,
+    pub p99: f64,
+}
+
+pub enum StatisticsAnswer {
+    Statistics(HistogramStats),
+    Refused(u8),
+}
+
+// "A window answer is a window with its floats, or blank, or a refusal (1 to 4 only)."
+pub enum WindowAnswer {
+    Window {
+        low: f64,
+        high: f64,
+        range: f64,
+        gamma: f64,
+    },
+    Blank,
+    Refused(u8),
+}
+
+// What pass one knows of the values so far.
+pub struct Moments {
+    pub count: u32,
+    pub min_db: f64,
+    pub max_db: f64,
+    pub mean: f64,
+    pub m2: f64,
+}
+
+// A bin, its count and the target's rank within it.
+pub struct BinRank {
+    pub bin: usize,
+    pub size: u32,
+    pub rank: u64,
+}
+
+pub struct Percentile {
+    pub value: f64,
+}
+
+// What a strategy decides: the Rust's (low_clip, high_clip, gamma).
+pub struct Clip {
+    pub low: f64,
+    pub high: f64,
+    pub gamma: f64,
+}
+
+// Where a row or a column lies among the tiles: its place, two tiles, and the second one's weight.
+pub struct TilePosition {
+    pub position: f64,
+    pub first: usize,
+    pub second: usize,
+    pub weight: f64,
+}
+
+// The colour bytes of one pixel.
+pub struct Rgb {
+    pub r: u8,
+    pub g: u8,
+    pub b: u8,
+}
