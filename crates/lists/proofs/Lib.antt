@@ -3,3 +3,4 @@ pub mod Reorder
 pub mod Rows
 pub mod Stored
 pub mod Table
+pub mod Replies

@@ -5,3 +5,5 @@ pub mod Picks
 pub mod Exact
 pub mod Casts
 pub mod Facts
+pub mod Alike
+pub mod Ends

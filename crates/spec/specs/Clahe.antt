@@ -65,9 +65,13 @@ shared over hs =
     let each = toUnsigned 64 (div binary64 over levels64) in
     oneByOne (rounded (sub binary64 over (mul binary64 (ofCount each) levels64))) (map (λ h. h + each) hs)
 
+-- counts clipped at a threshold
+unfoldable pub clipAt : Float → List ℕ → List ℕ
+clipAt limit hs = shared (excess limit zero64 hs) (map (clipped limit) hs)
+
 -- the counts of a tile of that area after clipping
 unfoldable pub clip : ℕ → List ℕ → List ℕ
-clip area hs = let limit = threshold area in shared (excess limit zero64 hs) (map (clipped limit) hs)
+clip area hs = clipAt (threshold area) hs
 
 -- the 64 tiles' counts, row by row
 unfoldable pub tileTable : ℕ → ℕ → List Pixel → ℕ → List ℕ

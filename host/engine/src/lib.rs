@@ -1,0 +1,301 @@
+//! The engine's calls for Rust: each function lends slices to the proved archive and hands its answer back.
+//! Rust's own rules keep the two duties of a caller (no overlap, alignment).
+
+use std::fmt;
+
+/// A number of the table of replies.
+#[derive(Clone, Copy, Debug, PartialEq, Eq)]
+pub struct Refusal(pub u8);
+
+impl fmt::Display for Refusal {
+    fn fmt(&self, f: &mut fmt::Formatter<'_>) -> fmt::Result {
+        let words = match self.0 {
+            1 => "rows or cols above 4,096",
+            2 => "a list has not the length that the call names",
+            3 => "a mark is neither 0 nor 1",
+            4 => "a valid decibel is NaN, infinite, below -1000 or above 1000",
+            5 => "a side that Clahe's tiles do not fit (7 x ceil(s/8) > s)",
+            6 => "the chosen gamma is not 1.0",
+            255 => "a strategy or a mode that names nothing",
+            _ => "a number that the table does not have",
+        };
+        write!(f, "refused {}: {}", self.0, words)
+    }
+}
+
+impl std::error::Error for Refusal {}
+
+pub type Answer<T> = Result<T, Refusal>;
+
+/// The strategies in the order of types.rs.
+#[derive(Clone, Copy, Debug, PartialEq, Eq)]
+#[repr(u8)]
+pub enum AutoscaleStrategy {
+    Standard,
+    Robust,
+    Adaptive,
+    Equalized,
+    Clahe,
+    Tamed,
+    Default,
+}
+
+impl AutoscaleStrategy {
+    pub const ALL: [Self; 7] =
+        [Self::Standard, Self::Robust, Self::Adaptive, Self::Equalized, Self::Clahe, Self::Tamed, Self::Default];
+
+    /// The elements of `work` that the strategy needs.
+    pub fn work_len(self) -> usize {
+        if self == Self::Clahe { CLAHE_WORK } else { 0 }
+    }
+}
+
+/// The modes in the order of types.rs.
+#[derive(Clone, Copy, Debug, PartialEq, Eq)]
+#[repr(u8)]
+pub enum SyntheticRgbMode {
+    Default,
+    RgbRatio,
+    SarUrban,
+    Enhanced,
+}
+
+impl SyntheticRgbMode {
+    pub const ALL: [Self; 4] = [Self::Default, Self::RgbRatio, Self::SarUrban, Self::Enhanced];
+}
+
+/// The operations in the order of types.rs.
+#[derive(Clone, Copy, Debug, PartialEq, Eq)]
+pub enum PolarizationOperation {
+    Sum,
+    Diff,
+    Ratio,
+    NDiff,
+    LogRatio,
+}
+
+impl PolarizationOperation {
+    pub const ALL: [Self; 5] = [Self::Sum, Self::Diff, Self::Ratio, Self::NDiff, Self::LogRatio];
+}
+
+pub const CLAHE_WORK: usize = 16_384;
+
+/// The names of the fifteen floats of the statistics, in their order.
+pub const FLOAT_NAMES: [&str; 15] =
+    ["min", "max", "mean", "std", "median", "p01", "p02", "p05", "p10", "p25", "p75", "p90", "p95", "p98", "p99"];
+
+#[derive(Clone, Copy, Debug, PartialEq)]
+pub struct Statistics {
+    pub valid_count: u64,
+    pub floats: [f64; 15],
+}
+
+#[derive(Clone, Copy, Debug, PartialEq)]
+pub enum Window {
+    Blank,
+    Window { low: f64, high: f64, range: f64, gamma: f64 },
+}
+
+/// One band: decibels and marks.
+#[derive(Clone, Copy)]
+pub struct Band<'a> {
+    pub db: &'a [f64],
+    pub valid_mask: &'a [u8],
+}
+
+mod c {
+    extern "C" {
+        pub fn quicklook_marks(processed: *const f32, processed_len: usize, valid_mask: *mut u8, valid_mask_len: usize) -> u8;
+        pub fn quicklook_statistics(
+            rows: usize, cols: usize, db: *const f64, db_len: usize, valid_mask: *const u8, valid_mask_len: usize,
+            valid_count: *mut u64, floats: *mut [f64; 15],
+        ) -> u8;
+        pub fn quicklook_window(
+            strategy: u8, rows: usize, cols: usize, db: *const f64, db_len: usize, valid_mask: *const u8, valid_mask_len: usize,
+            blank: *mut u8, floats: *mut [f64; 4],
+        ) -> u8;
+        pub fn quicklook_grey_u8(
+            strategy: u8, rows: usize, cols: usize, db: *const f64, db_len: usize, valid_mask: *const u8, valid_mask_len: usize,
+            out: *mut u8, out_len: usize, work: *mut f64, work_len: usize,
+        ) -> u8;
+        pub fn quicklook_grey_u16(
+            strategy: u8, rows: usize, cols: usize, db: *const f64, db_len: usize, valid_mask: *const u8, valid_mask_len: usize,
+            out: *mut u16, out_len: usize, work: *mut f64, work_len: usize,
+        ) -> u8;
+        pub fn quicklook_picture(
+            strategy: u8, mode: u8, rows: usize, cols: usize, db1: *const f64, db1_len: usize, valid_mask1: *const u8,
+            valid_mask1_len: usize, db2: *const f64, db2_len: usize, valid_mask2: *const u8, valid_mask2_len: usize, grey1: *mut u8,
+            grey1_len: usize, grey2: *mut u8, grey2_len: usize, rgb: *mut u8, rgb_len: usize, work: *mut f64, work_len: usize,
+        ) -> u8;
+        pub fn quicklook_stretch(data: *const u16, data_len: usize, out: *mut u8, out_len: usize) -> u8;
+        pub fn quicklook_compose(
+            mode: u8, strategy: u8, band1: *const u8, band1_len: usize, band2: *const u8, band2_len: usize, rgb: *mut u8, rgb_len: usize,
+        ) -> u8;
+        pub fn quicklook_pad_u8(rows: usize, cols: usize, data: *const u8, data_len: usize, padded: *mut u8, padded_len: usize) -> u8;
+        pub fn quicklook_pad_u16(rows: usize, cols: usize, data: *const u16, data_len: usize, padded: *mut u16, padded_len: usize) -> u8;
+        pub fn quicklook_sum(a: *const f32, a_len: usize, b: *const f32, b_len: usize, out: *mut f32, out_len: usize) -> u8;
+        pub fn quicklook_difference(a: *const f32, a_len: usize, b: *const f32, b_len: usize, out: *mut f32, out_len: usize) -> u8;
+        pub fn quicklook_ratio(a: *const f32, a_len: usize, b: *const f32, b_len: usize, out: *mut f32, out_len: usize) -> u8;
+        pub fn quicklook_normalized_diff(a: *const f32, a_len: usize, b: *const f32, b_len: usize, out: *mut f32, out_len: usize) -> u8;
+        pub fn quicklook_log_ratio(a: *const f32, a_len: usize, b: *const f32, b_len: usize, out: *mut f32, out_len: usize) -> u8;
+    }
+}
+
+fn answer(number: u8) -> Answer<()> {
+    if number == 0 { Ok(()) } else { Err(Refusal(number)) }
+}
+
+// Each `unsafe` below hands over a pointer and the length of the slice it comes from; the archive writes only behind `*mut`.
+
+pub fn marks(processed: &[f32], valid_mask: &mut [u8]) -> Answer<()> {
+    answer(unsafe { c::quicklook_marks(processed.as_ptr(), processed.len(), valid_mask.as_mut_ptr(), valid_mask.len()) })
+}
+
+pub fn statistics(rows: usize, cols: usize, band: Band) -> Answer<Statistics> {
+    let mut valid_count = 0u64;
+    let mut floats = [0f64; 15];
+    answer(unsafe {
+        c::quicklook_statistics(
+            rows, cols, band.db.as_ptr(), band.db.len(), band.valid_mask.as_ptr(), band.valid_mask.len(), &mut valid_count, &mut floats,
+        )
+    })?;
+    Ok(Statistics { valid_count, floats })
+}
+
+pub fn window(strategy: AutoscaleStrategy, rows: usize, cols: usize, band: Band) -> Answer<Window> {
+    let mut blank = 0u8;
+    let mut floats = [0f64; 4];
+    answer(unsafe {
+        c::quicklook_window(
+            strategy as u8, rows, cols, band.db.as_ptr(), band.db.len(), band.valid_mask.as_ptr(), band.valid_mask.len(), &mut blank,
+            &mut floats,
+        )
+    })?;
+    let [low, high, range, gamma] = floats;
+    Ok(if blank == 1 { Window::Blank } else { Window::Window { low, high, range, gamma } })
+}
+
+pub fn grey_u8(
+    strategy: AutoscaleStrategy, rows: usize, cols: usize, band: Band, out: &mut [u8], work: &mut [f64],
+) -> Answer<()> {
+    answer(unsafe {
+        c::quicklook_grey_u8(
+            strategy as u8, rows, cols, band.db.as_ptr(), band.db.len(), band.valid_mask.as_ptr(), band.valid_mask.len(),
+            out.as_mut_ptr(), out.len(), work.as_mut_ptr(), work.len(),
+        )
+    })
+}
+
+pub fn grey_u16(
+    strategy: AutoscaleStrategy, rows: usize, cols: usize, band: Band, out: &mut [u16], work: &mut [f64],
+) -> Answer<()> {
+    answer(unsafe {
+        c::quicklook_grey_u16(
+            strategy as u8, rows, cols, band.db.as_ptr(), band.db.len(), band.valid_mask.as_ptr(), band.valid_mask.len(),
+            out.as_mut_ptr(), out.len(), work.as_mut_ptr(), work.len(),
+        )
+    })
+}
+
+/// What the picture call writes.
+pub struct PictureOut<'a> {
+    pub grey1: &'a mut [u8],
+    pub grey2: &'a mut [u8],
+    pub rgb: &'a mut [u8],
+}
+
+pub fn picture(
+    strategy: AutoscaleStrategy, mode: SyntheticRgbMode, rows: usize, cols: usize, band1: Band, band2: Band, out: PictureOut,
+    work: &mut [f64],
+) -> Answer<()> {
+    answer(unsafe {
+        c::quicklook_picture(
+            strategy as u8, mode as u8, rows, cols, band1.db.as_ptr(), band1.db.len(), band1.valid_mask.as_ptr(),
+            band1.valid_mask.len(), band2.db.as_ptr(), band2.db.len(), band2.valid_mask.as_ptr(), band2.valid_mask.len(),
+            out.grey1.as_mut_ptr(), out.grey1.len(), out.grey2.as_mut_ptr(), out.grey2.len(), out.rgb.as_mut_ptr(), out.rgb.len(),
+            work.as_mut_ptr(), work.len(),
+        )
+    })
+}
+
+pub fn stretch(data: &[u16], out: &mut [u8]) -> Answer<()> {
+    answer(unsafe { c::quicklook_stretch(data.as_ptr(), data.len(), out.as_mut_ptr(), out.len()) })
+}
+
+pub fn compose(mode: SyntheticRgbMode, strategy: AutoscaleStrategy, band1: &[u8], band2: &[u8], rgb: &mut [u8]) -> Answer<()> {
+    answer(unsafe {
+        c::quicklook_compose(
+            mode as u8, strategy as u8, band1.as_ptr(), band1.len(), band2.as_ptr(), band2.len(), rgb.as_mut_ptr(), rgb.len(),
+        )
+    })
+}
+
+pub fn pad_u8(rows: usize, cols: usize, data: &[u8], padded: &mut [u8]) -> Answer<()> {
+    answer(unsafe { c::quicklook_pad_u8(rows, cols, data.as_ptr(), data.len(), padded.as_mut_ptr(), padded.len()) })
+}
+
+pub fn pad_u16(rows: usize, cols: usize, data: &[u16], padded: &mut [u16]) -> Answer<()> {
+    answer(unsafe { c::quicklook_pad_u16(rows, cols, data.as_ptr(), data.len(), padded.as_mut_ptr(), padded.len()) })
+}
+
+pub fn operate(operation: PolarizationOperation, a: &[f32], b: &[f32], out: &mut [f32]) -> Answer<()> {
+    let call = match operation {
+        PolarizationOperation::Sum => c::quicklook_sum,
+        PolarizationOperation::Diff => c::quicklook_difference,
+        PolarizationOperation::Ratio => c::quicklook_ratio,
+        PolarizationOperation::NDiff => c::quicklook_normalized_diff,
+        PolarizationOperation::LogRatio => c::quicklook_log_ratio,
+    };
+    answer(unsafe { call(a.as_ptr(), a.len(), b.as_ptr(), b.len(), out.as_mut_ptr(), out.len()) })
+}
+
+/// The raw calls that take codes, for tests of codes that name nothing.
+pub mod codes {
+    use super::{answer, c, Answer, Band};
+
+    pub fn window(strategy: u8, rows: usize, cols: usize, band: Band, blank: &mut u8, floats: &mut [f64; 4]) -> Answer<()> {
+        answer(unsafe {
+            c::quicklook_window(
+                strategy, rows, cols, band.db.as_ptr(), band.db.len(), band.valid_mask.as_ptr(), band.valid_mask.len(), blank, floats,
+            )
+        })
+    }
+
+    pub fn statistics(rows: usize, cols: usize, band: Band, valid_count: &mut u64, floats: &mut [f64; 15]) -> Answer<()> {
+        answer(unsafe {
+            c::quicklook_statistics(
+                rows, cols, band.db.as_ptr(), band.db.len(), band.valid_mask.as_ptr(), band.valid_mask.len(), valid_count, floats,
+            )
+        })
+    }
+
+    pub fn grey_u8(
+        strategy: u8, rows: usize, cols: usize, band: Band, out: &mut [u8], work: &mut [f64],
+    ) -> Answer<()> {
+        answer(unsafe {
+            c::quicklook_grey_u8(
+                strategy, rows, cols, band.db.as_ptr(), band.db.len(), band.valid_mask.as_ptr(), band.valid_mask.len(),
+                out.as_mut_ptr(), out.len(), work.as_mut_ptr(), work.len(),
+            )
+        })
+    }
+
+    pub fn grey_u16(
+        strategy: u8, rows: usize, cols: usize, band: Band, out: &mut [u16], work: &mut [f64],
+    ) -> Answer<()> {
+        answer(unsafe {
+            c::quicklook_grey_u16(
+                strategy, rows, cols, band.db.as_ptr(), band.db.len(), band.valid_mask.as_ptr(), band.valid_mask.len(),
+                out.as_mut_ptr(), out.len(), work.as_mut_ptr(), work.len(),
+            )
+        })
+    }
+
+    pub fn compose(mode: u8, strategy: u8, band1: &[u8], band2: &[u8], rgb: &mut [u8]) -> Answer<()> {
+        answer(unsafe {
+            c::quicklook_compose(
+                mode, strategy, band1.as_ptr(), band1.len(), band2.as_ptr(), band2.len(), rgb.as_mut_ptr(), rgb.len(),
+            )
+        })
+    }
+}

@@ -1,0 +1,122 @@
+//! A synthetic two-band sea scene (swell, a lee behind an island, ships, a coast without data), and every step of a quicklook on it.
+
+use crate::npy::{self, Kind};
+use crate::output::{self, Picture};
+use crate::progress::step;
+use crate::trouble::{Outcome, Trouble};
+use engine::{AutoscaleStrategy, Band, PictureOut, SyntheticRgbMode, Window};
+use std::fs;
+use std::path::Path;
+
+/// Numbers that look random and are the same in every run.
+struct Noise(u64);
+
+impl Noise {
+    /// Between 0 and 1.
+    fn unit(&mut self) -> f64 {
+        self.0 = self.0.wrapping_add(0x9e37_79b9_7f4a_7c15);
+        let mut z = self.0;
+        z = (z ^ (z >> 30)).wrapping_mul(0xbf58_476d_1ce4_e5b9);
+        z = (z ^ (z >> 27)).wrapping_mul(0x94d0_49bb_1331_11eb);
+        ((z ^ (z >> 31)) >> 11) as f64 / (1u64 << 53) as f64
+    }
+
+    /// Speckle: an intensity's factor, of mean 1.
+    fn speckle(&mut self) -> f64 {
+        -(0..4).map(|_| (1.0 - self.unit()).ln()).sum::<f64>() / 4.0
+    }
+}
+
+/// The intensities of one band, linear. A coast on the right has none.
+fn intensities(side: usize, level_db: f64, swell_db: f64, seed: u64) -> Vec<f32> {
+    let mut noise = Noise(seed);
+    let scale = side as f64;
+    let mut list = Vec::with_capacity(side * side);
+    for row in 0..side {
+        for col in 0..side {
+            let (y, x) = (row as f64 / scale, col as f64 / scale);
+            let coast = 0.88 + 0.05 * (9.0 * y).sin() + 0.02 * (31.0 * y).cos();
+            let swell = (2.0 * std::f64::consts::PI * (22.0 * x + 9.0 * y)).sin();
+            let island = ((x - 0.35).powi(2) + (y - 0.4).powi(2)).sqrt();
+            let lee = if x > 0.35 { (-((y - 0.4 - 0.15 * (x - 0.35)) / 0.07).powi(2)).exp() * (-(x - 0.35) / 0.3).exp() } else { 0.0 };
+            let mut db = level_db + swell_db * swell - 7.0 * lee + 3.0 * y;
+            if island < 0.035 {
+                db = level_db + 14.0;
+            }
+            let intensity = 10f64.powf(db / 10.0) * noise.speckle();
+            list.push(if x > coast { 0.0 } else { intensity as f32 });
+        }
+    }
+    for ship in 0..6 {
+        let (row, col) = ((side * (2 * ship + 3)) / 17, (side * (3 * ship + 2)) / 23);
+        for dy in 0..3.min(side - row.min(side)) {
+            for dx in 0..5.min(side - col.min(side)) {
+                list[(row + dy) * side + col + dx] *= 300.0;
+            }
+        }
+    }
+    list
+}
+
+/// 10 log10 of an intensity, as a raster that arrives ready made has it; the floor stands where there is nothing.
+fn decibels(intensities: &[f32]) -> Vec<f64> {
+    intensities.iter().map(|&v| 10.0 * f64::from(v).max(1e-10).log10()).collect()
+}
+
+fn save_npy(path: &Path, kind: Kind, side: usize, bytes: impl Iterator<Item = u8>) -> Outcome<()> {
+    let mut file = npy::new_header(kind, side, side);
+    file.extend(bytes);
+    fs::write(path, file).map_err(|e| Trouble::file(path, e))
+}
+
+pub fn run(folder: &Path, side: usize) -> Outcome<()> {
+    if side == 0 || side > 4096 {
+        return Err(Trouble::Usage("a demo scene has 1 to 4096 rows and columns".into()));
+    }
+    fs::create_dir_all(folder).map_err(|e| Trouble::file(folder, e))?;
+    let at = |name: &str| folder.join(name);
+
+    let bands = step("making the scene", || [("vv", intensities(side, -12.0, 2.0, 1)), ("vh", intensities(side, -20.0, 1.0, 2))]);
+    let mut made: Vec<(Vec<f64>, Vec<u8>)> = Vec::new();
+    for (name, list) in &bands {
+        save_npy(&at(&format!("{name}-intensity.npy")), Kind::F32, side, list.iter().flat_map(|v| v.to_le_bytes()))?;
+        let db = decibels(list);
+        save_npy(&at(&format!("{name}.npy")), Kind::F64, side, db.iter().flat_map(|v| v.to_le_bytes()))?;
+        let mut valid_mask = vec![0u8; list.len()];
+        step("marks", || engine::marks(list, &mut valid_mask))?;
+        output::write(&at(&format!("{name}-marks.npy")), side, side, Picture::Marks(&valid_mask))?;
+
+        let band = Band { db: &db, valid_mask: &valid_mask };
+        let statistics = step("statistics", || engine::statistics(side, side, band))?;
+        println!("{name}: {} of {} pixels valid", statistics.valid_count, list.len());
+        for (float, value) in engine::FLOAT_NAMES.iter().zip(statistics.floats) {
+            println!("  {float:<7}{value:>10.3} dB");
+        }
+        if let Window::Window { low, high, .. } = step("window", || engine::window(AutoscaleStrategy::Default, side, side, band))? {
+            println!("  window {low:.3} to {high:.3} dB");
+        }
+        let mut greys = vec![0u16; list.len()];
+        step("grey", || engine::grey_u16(AutoscaleStrategy::Default, side, side, band, &mut greys, &mut []))?;
+        output::write(&at(&format!("{name}-grey16.png")), side, side, Picture::Grey16(&greys))?;
+        made.push((db, valid_mask));
+    }
+
+    let band = |k: usize| Band { db: &made[k].0, valid_mask: &made[k].1 };
+    for strategy in [AutoscaleStrategy::Default, AutoscaleStrategy::Tamed, AutoscaleStrategy::Clahe] {
+        let n = side * side;
+        let (mut grey1, mut grey2, mut rgb) = (vec![0u8; n], vec![0u8; n], vec![0u8; 3 * n]);
+        let mut work = vec![0f64; strategy.work_len()];
+        let lent = PictureOut { grey1: &mut grey1, grey2: &mut grey2, rgb: &mut rgb };
+        let name = format!("{strategy:?}").to_lowercase();
+        match step("picture", || engine::picture(strategy, SyntheticRgbMode::Default, side, side, band(0), band(1), lent, &mut work)) {
+            Ok(()) => {
+                output::write(&at(&format!("{name}-rgb.png")), side, side, Picture::Rgb(&rgb))?;
+                output::write(&at(&format!("{name}-grey1.png")), side, side, Picture::Grey8(&grey1))?;
+                output::write(&at(&format!("{name}-grey2.png")), side, side, Picture::Grey8(&grey2))?;
+            }
+            Err(refusal) => println!("{name}: {refusal}"),
+        }
+    }
+    println!("scene and pictures in {}", folder.display());
+    Ok(())
+}

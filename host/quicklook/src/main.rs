@@ -1,0 +1,31 @@
+//! quicklook: radar quicklooks from decibel rasters, by the proved engine.
+//! The program reads files, lends memory to the engine and writes what it answers; it decides nothing about pixels.
+
+mod arguments;
+mod commands;
+mod demo;
+mod npy;
+mod output;
+mod progress;
+mod raster;
+mod trouble;
+
+use clap::Parser;
+use std::process::ExitCode;
+
+fn main() -> ExitCode {
+    let arguments = match arguments::Arguments::try_parse() {
+        Ok(arguments) => arguments,
+        Err(error) => {
+            let _ = error.print();
+            return if error.use_stderr() { ExitCode::from(trouble::USAGE_STATUS) } else { ExitCode::SUCCESS };
+        }
+    };
+    match commands::run(arguments.command) {
+        Ok(()) => ExitCode::SUCCESS,
+        Err(trouble) => {
+            eprintln!("quicklook: {trouble}");
+            ExitCode::from(trouble.status())
+        }
+    }
+}
