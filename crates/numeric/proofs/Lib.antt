@@ -5,5 +5,7 @@ pub mod Picks
 pub mod Exact
 pub mod Casts
 pub mod Facts
+pub mod Values
+pub mod Small
 pub mod Alike
 pub mod Ends

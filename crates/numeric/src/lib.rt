@@ -1,7 +1,9 @@
 // Steps on floats that the Rust takes by methods and by `as`, each bit-exact: picks, casts, rounding, the root.
 ghost use mathlib.Core.Path.{_≡_};
-ghost use lib.Ieee.{toUnsigned};
-ghost use Rattle.spec.specs.Floats.{larger, smaller, held, magnitude};
+ghost use lib.Dec.{T};
+ghost use lib.Ieee.{toUnsigned, le};
+ghost use Rattle.spec.specs.Floats.{zero64, larger, smaller, held, magnitude, rounded};
+ghost use Rattle.spec.specs.Value.{full16};
 
 // `f64::max`: a NaN in the first place loses, and of two equals the second is given.
 pub fn max_f64(a: f64, b: f64) -> f64
@@ -61,4 +63,24 @@ pub fn f64_as_u64(x: f64) -> u64
         return 18446744073709551615;
     }
     0
+}
+
+// The fraction dropped, for an x from 0.0 to 65535.0: 2^52 added and taken off leaves the nearest whole number.
+pub fn trunc_small(x: f64) -> u32
+    requires { ⌜ T (le zero64 x) ⌝ ∗ ⌜ T (le x full16) ⌝ }
+    ensures { λ r. ⌜ r ≡ toUnsigned 64 x ⌝ }
+{
+    let nearest = x + 4503599627370496.0 - 4503599627370496.0;
+    let n = nearest as i32 as u32;
+    if nearest > x { n - 1 } else { n }
+}
+
+// `round` for an x from 0.0 to 65535.0: half away from zero.
+pub fn round_small(x: f64) -> u32
+    requires { ⌜ T (le zero64 x) ⌝ ∗ ⌜ T (le x full16) ⌝ }
+    ensures { λ r. ⌜ r ≡ rounded x ⌝ }
+{
+    let nearest = x + 4503599627370496.0 - 4503599627370496.0;
+    let n = nearest as i32 as u32;
+    if nearest + 0.5 <= x { n + 1 } else { n }
 }

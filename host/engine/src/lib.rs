@@ -251,7 +251,7 @@ pub fn operate(operation: PolarizationOperation, a: &[f32], b: &[f32], out: &mut
 
 /// The raw calls that take codes, for tests of codes that name nothing.
 pub mod codes {
-    use super::{answer, c, Answer, Band};
+    use super::{answer, c, Answer, Band, PictureOut};
 
     pub fn window(strategy: u8, rows: usize, cols: usize, band: Band, blank: &mut u8, floats: &mut [f64; 4]) -> Answer<()> {
         answer(unsafe {
@@ -295,6 +295,19 @@ pub mod codes {
         answer(unsafe {
             c::quicklook_compose(
                 mode, strategy, band1.as_ptr(), band1.len(), band2.as_ptr(), band2.len(), rgb.as_mut_ptr(), rgb.len(),
+            )
+        })
+    }
+
+    pub fn picture(
+        strategy: u8, mode: u8, rows: usize, cols: usize, band1: Band, band2: Band, out: PictureOut, work: &mut [f64],
+    ) -> Answer<()> {
+        answer(unsafe {
+            c::quicklook_picture(
+                strategy, mode, rows, cols, band1.db.as_ptr(), band1.db.len(), band1.valid_mask.as_ptr(), band1.valid_mask.len(),
+                band2.db.as_ptr(), band2.db.len(), band2.valid_mask.as_ptr(), band2.valid_mask.len(), out.grey1.as_mut_ptr(),
+                out.grey1.len(), out.grey2.as_mut_ptr(), out.grey2.len(), out.rgb.as_mut_ptr(), out.rgb.len(), work.as_mut_ptr(),
+                work.len(),
             )
         })
     }

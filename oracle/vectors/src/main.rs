@@ -1,1 +1,61 @@
-fn main(){}
+//! Writes the vectors for replay, or the worked scenes, to a folder. Everything follows from one fixed seed.
+mod bands;
+mod beside;
+mod calls;
+mod compose;
+mod numeric;
+mod pictures;
+mod record;
+mod rng;
+mod tiles;
+
+use std::path::Path;
+use std::{env, fs, io, process};
+
+use record::Part;
+use rng::Rng;
+
+const SEED: u64 = 0x5A5;
+
+/// Every part with a seed of its own, so that a change of one leaves the others as they are.
+fn parts() -> Vec<Part> {
+    let rng = |k: u64| Rng::new(SEED + k);
+    vec![
+        beside::ops(&mut rng(1)),
+        beside::padding(),
+        beside::marks_part(&mut rng(2)),
+        numeric::numeric(&mut rng(3)),
+        beside::stretches(&mut rng(4)),
+        compose::compose(&mut rng(5)),
+        bands::statistics_part(&mut rng(6)),
+        bands::window_part(&mut rng(7)),
+        bands::grey8_part(&mut rng(8)),
+        bands::grey16_part(&mut rng(9)),
+        pictures::pictures(&mut rng(10)),
+        tiles::clahe(&mut rng(11)),
+    ]
+}
+
+fn write(folder: &Path) -> io::Result<()> {
+    fs::create_dir_all(folder)?;
+    let (mut records, mut bytes) = (0, 0);
+    for part in parts() {
+        fs::write(folder.join(part.name).with_extension("bin"), &part.bytes)?;
+        println!("{:10} {:6} records {:5} refused {:8} bytes", part.name, part.records, part.refused, part.bytes.len());
+        records += part.records;
+        bytes += part.bytes.len();
+    }
+    println!("{:10} {records:6} records               {bytes:8} bytes", "all");
+    Ok(())
+}
+
+fn main() -> io::Result<()> {
+    let arguments: Vec<String> = env::args().skip(1).collect();
+    match arguments.iter().map(String::as_str).collect::<Vec<_>>()[..] {
+        [folder] => write(Path::new(folder)),
+        _ => {
+            eprintln!("usage: vectors FOLDER");
+            process::exit(2)
+        }
+    }
+}

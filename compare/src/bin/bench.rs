@@ -1,0 +1,139 @@
+//! bench [SIDE ..]: the Rust originals and the archive on the same scenes in the same process, one thread, medians, as a Markdown table.
+//! The Rust's inputs (arrays and masks of bool) are made beforehand, outside its times; its outputs are allocated by it, inside them.
+
+use compare::{scene, Noise};
+use engine::{AutoscaleStrategy, Band, PictureOut, SyntheticRgbMode};
+use ndarray::Array2;
+use sarpro::core::processing::{autoscale, synthetic_rgb};
+use sarpro::types::BitDepth;
+use std::hint::black_box;
+use std::time::Instant;
+
+/// The median of several runs, in milliseconds; the first run is not counted.
+fn median(runs: usize, mut work: impl FnMut()) -> f64 {
+    work();
+    let mut times: Vec<f64> = (0..runs)
+        .map(|_| {
+            let start = Instant::now();
+            work();
+            start.elapsed().as_secs_f64() * 1e3
+        })
+        .collect();
+    times.sort_by(f64::total_cmp);
+    times[runs / 2]
+}
+
+fn row(what: &str, side: usize, rust: f64, ours: f64) {
+    println!("| {what} | {side} | {rust:.2} | {ours:.2} | {:.2} |", ours / rust);
+}
+
+struct RustBand {
+    db: Array2<f64>,
+    mask: Vec<bool>,
+}
+
+fn rust_grey(strategy: AutoscaleStrategy, depth: BitDepth, band: &RustBand) -> (Vec<u8>, Option<Vec<u16>>) {
+    match strategy {
+        AutoscaleStrategy::Standard => autoscale::autoscale_db_image_to_bitdepth(&band.db, &band.mask, depth),
+        _ => autoscale::autoscale_db_image_to_bitdepth_advanced(&band.db, &band.mask, depth, oracle::STRATEGIES[strategy as usize]),
+    }
+}
+
+fn rust_picture(strategy: AutoscaleStrategy, bands: &[RustBand; 2]) -> (Vec<u8>, Vec<u8>, Vec<u8>) {
+    let grey = |k: usize| match strategy {
+        AutoscaleStrategy::Tamed => autoscale::autoscale_db_image_tamed_synrgb_u8(&bands[k].db, &bands[k].mask, k == 0),
+        _ => rust_grey(strategy, BitDepth::U8, &bands[k]).0,
+    };
+    let (grey1, grey2) = (grey(0), grey(1));
+    let rgb = synthetic_rgb::create_synthetic_rgb_by_mode_and_strategy(
+        oracle::MODES[0], oracle::STRATEGIES[strategy as usize], &grey1, &grey2,
+    );
+    (grey1, grey2, rgb)
+}
+
+fn bench(side: usize) {
+    let runs = if side > 2_000 { 5 } else { 9 };
+    let n = side * side;
+    let mut noise = Noise::new(7);
+    let scenes = [scene::sea(&mut noise, side, side), scene::sea(&mut noise, side, side)];
+    let band = |k: usize| Band { db: &scenes[k].0, valid_mask: &scenes[k].1 };
+    let rust = [0, 1].map(|k: usize| RustBand {
+        db: Array2::from_shape_vec((side, side), scenes[k].0.clone()).unwrap(),
+        mask: scenes[k].1.iter().map(|&m| m == 1).collect(),
+    });
+    let (mut grey1, mut grey2, mut rgb) = (vec![0u8; n], vec![0u8; n], vec![0u8; 3 * n]);
+    let mut grey16 = vec![0u16; n];
+    let mut work = vec![0f64; 16_384];
+
+    let theirs = median(runs, || {
+        black_box(autoscale::histogram_stats(&rust[0].db, &rust[0].mask));
+    });
+    let ours = median(runs, || {
+        black_box(engine::statistics(side, side, band(0))).unwrap();
+    });
+    row("statistics", side, theirs, ours);
+
+    for strategy in [AutoscaleStrategy::Default, AutoscaleStrategy::Clahe] {
+        let theirs = median(runs, || drop(black_box(rust_grey(strategy, BitDepth::U8, &rust[0]))));
+        let ours = median(runs, || engine::grey_u8(strategy, side, side, band(0), black_box(&mut grey1), &mut work).unwrap());
+        row(&format!("grey 8 bits, {strategy:?}"), side, theirs, ours);
+        let theirs = median(runs, || drop(black_box(rust_grey(strategy, BitDepth::U16, &rust[0]))));
+        let ours = median(runs, || engine::grey_u16(strategy, side, side, band(0), black_box(&mut grey16), &mut work).unwrap());
+        row(&format!("grey 16 bits, {strategy:?}"), side, theirs, ours);
+    }
+
+    let wide: Vec<u16> = (0..n).map(|_| noise.next() as u16).collect();
+    let theirs = median(runs, || drop(black_box(autoscale::scale_u16_to_u8(&wide))));
+    let ours = median(runs, || engine::stretch(&wide, black_box(&mut grey1)).unwrap());
+    row("stretch, full 16 bits", side, theirs, ours);
+    let narrow: Vec<u16> = wide.iter().map(|v| v % 256).collect();
+    let theirs = median(runs, || drop(black_box(autoscale::scale_u16_to_u8(&narrow))));
+    let ours = median(runs, || engine::stretch(&narrow, black_box(&mut grey1)).unwrap());
+    row("stretch, bytes", side, theirs, ours);
+
+    let bytes1: Vec<u8> = (0..n).map(|_| noise.next() as u8).collect();
+    let bytes2: Vec<u8> = (0..n).map(|_| noise.next() as u8).collect();
+    let theirs = median(runs, || drop(black_box(synthetic_rgb::create_synthetic_rgb(&bytes1, &bytes2))));
+    let ours = median(runs, || {
+        engine::compose(SyntheticRgbMode::Default, AutoscaleStrategy::Default, &bytes1, &bytes2, black_box(&mut rgb)).unwrap()
+    });
+    row("composition, default", side, theirs, ours);
+    let theirs = median(runs, || drop(black_box(synthetic_rgb::create_synthetic_rgb_suppressed(&bytes1, &bytes2))));
+    let ours = median(runs, || {
+        engine::compose(SyntheticRgbMode::Default, AutoscaleStrategy::Tamed, &bytes1, &bytes2, black_box(&mut rgb)).unwrap()
+    });
+    row("composition, suppressed", side, theirs, ours);
+
+    for strategy in AutoscaleStrategy::ALL {
+        let mut paint = || {
+            let out = PictureOut { grey1: &mut grey1, grey2: &mut grey2, rgb: &mut rgb };
+            engine::picture(strategy, SyntheticRgbMode::Default, side, side, band(0), band(1), black_box(out), &mut work)
+        };
+        if let Err(refusal) = paint() {
+            println!("| picture, {strategy:?} | {side} | | {refusal} | |");
+            continue;
+        }
+        let ours = median(runs, || paint().unwrap());
+        let theirs = median(runs, || drop(black_box(rust_picture(strategy, &rust))));
+        row(&format!("picture, {strategy:?}"), side, theirs, ours);
+    }
+}
+
+/// The most memory this process has had, in MiB.
+fn peak_mib() -> Option<f64> {
+    let status = std::fs::read_to_string("/proc/self/status").ok()?;
+    let line = status.lines().find(|line| line.starts_with("VmHWM:"))?;
+    line.split_whitespace().nth(1)?.parse::<f64>().ok().map(|kib| kib / 1024.0)
+}
+
+fn main() {
+    let sides: Vec<usize> = std::env::args().skip(1).filter_map(|a| a.parse().ok()).collect();
+    let sides = if sides.is_empty() { vec![512, 1_024, 2_048, 4_096] } else { sides };
+    println!("| call | side | Rust, ms | archive, ms | ratio |\n|---|---|---|---|---|");
+    for side in sides {
+        bench(side);
+    }
+    if let Some(peak) = peak_mib() {
+        println!("\nPeak memory of the process, both sides' inputs and outputs included: {peak:.0} MiB");
+    }
+}

@@ -1,0 +1,45 @@
+// The position of a row or a column among the tiles, and the sum there.
+ghost use mathlib.Core.Path.{_≡_};
+ghost use Prim.Native.Nat.{_≤_, _<_};
+ghost use lib.ListN.{length};
+ghost use Rattle.clahe.specs.Work.{Among, sampled};
+ghost use Rattle.spec.specs.Clahe as Clahe;
+use types::TilePosition;
+
+// Where row or column i lies among tiles of that side: the weight is below 0 before the first tile's middle.
+pub fn tile_position(side: usize, i: usize) -> TilePosition
+    requires { ⌜ (side ≤ 4096) × (i ≤ 4096) ⌝ }
+    ensures { λ r. ⌜ r ≡ Clahe.positionOf side i ⌝ }
+{
+    let position = i as f64 / side as f64 - 0.5;
+    let k = numeric::f64_as_u64(position);
+    let first = if k < 7 { k as usize } else { 7 };
+    let second = if k < 6 { k as usize + 1 } else { 7 };
+    TilePosition {
+        position,
+        first,
+        second,
+        weight: position - std::num::nearest_u64_to_f64(k),
+    }
+}
+
+// a at weight 0 and b at weight 1.
+pub fn blend(weight: f64, a: f64, b: f64) -> f64
+    ensures { λ r. ⌜ r ≡ Clahe.blend weight a b ⌝ }
+{
+    a * (1.0 - weight) + b * weight
+}
+
+// The sum at bin b, from the four tiles around.
+pub fn sample(work: &[f64], y: TilePosition, x: TilePosition, b: usize) -> f64
+    requires { ⌜ (length (now work) ≡ 16384) × Among y × Among x × (b < 256) ⌝ }
+    ensures { λ r. ⌜ r ≡ sampled (now (work .entry)) y x b ⌝ }
+{
+    let top = y.first * 8;
+    let bottom = y.second * 8;
+    let left = x.first;
+    let right = x.second;
+    let a = blend(x.weight, work[(top + left) * 256 + b], work[(top + right) * 256 + b]);
+    let z = blend(x.weight, work[(bottom + left) * 256 + b], work[(bottom + right) * 256 + b]);
+    blend(y.weight, a, z)
+}

@@ -1,0 +1,5 @@
+pub mod Levels
+pub mod Near
+pub mod Farey
+pub mod Places
+pub mod Laws

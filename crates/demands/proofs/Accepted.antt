@@ -1,0 +1,94 @@
+-- What is known of the input of a call that is done: none of the table's tests held. Assumes nothing.
+use mathlib.Core.Path.{_≡_, refl, sym, ap, _∙_}
+use mathlib.Core.Bool.{Bool, true, false, not, _&&_, _||_, true≢false}
+use mathlib.Core.List.{List, [], _∷_}
+use Prim.Native.Nat.{ℕ, zero, suc, _*_}
+use native.Mathlib.Omega.{arith}
+use borrow.Author.Tests.{eqb-true}
+use lib.Dec.{T, eqb}
+use lib.ListN.{length, getD}
+use lib.Ieee.{Float, binary64, le, neg, ofBits}
+use lib.Ieee.Scale.{finite}
+use Rattle.spec.specs.Answer.{Answer, refused, done, firstOf, orRefused, answer}
+use Rattle.spec.specs.Lists.{any}
+use Rattle.spec.specs.Pixels.{Pixel, off, on}
+use Rattle.spec.specs.Refusals.{unlike, notNamed, badPixel}
+use Rattle.numeric.proofs.Facts.{bounded-finite}
+
+is-done : {A : Type 0} → Answer A → Bool
+is-done (refused k) = false
+is-done (done a) = true
+
+given : {A : Type 0} → A → Answer A → A
+given a (refused k) = a
+given a (done b) = b
+
+pub done-or-refused : {A : Type 0} (k : ℕ) (a : Answer A) (b : A) → orRefused k a ≡ done b → (k ≡ 0) × (a ≡ done b)
+unfolding orRefused is-done
+done-or-refused zero a b e = (refl, e)
+done-or-refused (suc k) a b e = absurd (true≢false (sym (ap is-done e)))
+
+pub done-same : {A : Type 0} (a b : A) → done a ≡ done b → a ≡ b
+unfolding given
+done-same a b e = ap (given a) e
+
+pub done-answer : {A : Type 0} (k : ℕ) (a b : A) → answer k a ≡ done b → (k ≡ 0) × (a ≡ b)
+unfolding answer
+done-answer k a b e = let h = done-or-refused k (done a) b e in (h .0, done-same a b (h .1))
+
+-- none of the tests holds
+abbrev pub Clear : List Bool → Type 0
+Clear [] = Unit
+Clear (t ∷ ts) = (t ≡ false) × Clear ts
+
+pub none-holds : (k : ℕ) (ts : List Bool) → firstOf (suc k) ts ≡ 0 → Clear ts
+unfolding firstOf
+none-holds k [] e = tt
+none-holds k (true ∷ ts) e = absurd (omega (arith, e))
+none-holds k (false ∷ ts) e = (refl, none-holds (suc k) ts e)
+
+pub all-clear : (k : ℕ) (ts : List Bool) → Clear ts → firstOf k ts ≡ 0
+unfolding firstOf
+all-clear k [] h = refl
+all-clear k (true ∷ ts) h = absurd (true≢false (h .0))
+all-clear k (false ∷ ts) h = all-clear (suc k) ts (h .1)
+
+pub both-false : {a b : Bool} → a ≡ false → b ≡ false → (a || b) ≡ false
+both-false e f = rw (e, f) refl
+
+pub or-false : (a b : Bool) → (a || b) ≡ false → (a ≡ false) × (b ≡ false)
+or-false true b e = absurd (true≢false e)
+or-false false b e = (refl, e)
+
+named-length : (n k : ℕ) → unlike n k ≡ false → n ≡ k
+unfolding unlike
+named-length n k e = go (eqb n k) refl e
+  where
+    go : (t : Bool) → eqb n k ≡ t → not t ≡ false → n ≡ k
+    go true q h = eqb-true n k q
+    go false q h = absurd (true≢false h)
+
+-- marks and dB of the named lengths
+pub named-lengths : (rows cols : ℕ) (m : List ℕ) (d : List Float) → notNamed rows cols m d ≡ false → length m ≡ length d
+unfolding notNamed
+named-lengths rows cols m d e =
+    let h = or-false (unlike (length d) (rows * cols)) (unlike (length m) (rows * cols)) e in
+    named-length (length m) (rows * cols) (h .1) ∙ sym (named-length (length d) (rows * cols) (h .0))
+
+-- a valid dB is finite
+pub good-at : (px : List Pixel) (i : ℕ) → any badPixel px ≡ false → badPixel (getD px i off) ≡ false
+unfolding any badPixel
+good-at [] i e = refl
+good-at (p ∷ px) zero e = or-false (badPixel p) (any badPixel px) e .0
+good-at (p ∷ px) (suc i) e = good-at px i (or-false (badPixel p) (any badPixel px) e .1)
+
+and-parts : (a b : Bool) → not (a && b) ≡ false → T a × T b
+and-parts true true e = (tt, tt)
+and-parts true false e = absurd (true≢false e)
+and-parts false b e = absurd (true≢false e)
+
+pub good-finite : (v : Float) → badPixel (on v) ≡ false → T (finite v)
+unfolding badPixel
+good-finite v e =
+    let h = and-parts (le (neg (ofBits binary64 0x408f_4000_0000_0000)) v) (le v (ofBits binary64 0x408f_4000_0000_0000)) e in
+    bounded-finite v (h .0) (h .1)

@@ -1,0 +1,205 @@
+-- The order of greys, from the order of a pixel's value and of a stretched byte to the calls. Assumes nothing.
+use mathlib.Core.Path.{_≡_, refl, sym, ap, _∙_, subst, subst₂}
+use mathlib.Core.Bool.{Bool, true, false, cond, _||_}
+use mathlib.Core.List.{List, [], _∷_, map, zipWith}
+use Prim.Native.Nat.{ℕ, zero, suc, _*_, _≤_, _<_, max, zero-le, suc-le-suc}
+use native.Mathlib.Nat.{suc-inj, le-of-eq, le-trans, le-of-suc-le-suc, not-suc-le-zero}
+use native.Mathlib.Omega.{arith}
+use lib.Dec.{T, eqb}
+use lib.ListN.{length, getD}
+use lib.Ieee.{Float, nan, binary64, mul, le, ofBits, toUnsigned}
+use Rattle.types.specs.declared.AutoscaleStrategy.{AutoscaleStrategy}
+use Rattle.types.specs.declared.Clip.{Clip}
+use Rattle.types.specs.declared.SyntheticRgbMode.{SyntheticRgbMode}
+use Rattle.types.specs.declared.WindowAnswer.{WindowAnswer}
+use Rattle.types.specs.declared.WindowAnswer.the-variants.{Window, Blank, Refused}
+use Rattle.spec.specs.Floats.{zero64, held}
+use Rattle.spec.specs.Lists.{lowest, highest}
+use Rattle.spec.specs.Answer.{done, firstOf}
+use Rattle.spec.specs.Pixels.{Pixel, off, on, pixel, pixels}
+use Rattle.spec.specs.Refusals.{notNamed, unlike, workUnlike, badPixel, badDecibel}
+use Rattle.spec.specs.Strategies.{isClahe, isTamed}
+use Rattle.spec.specs.Statistics.{statisticsOf}
+use Rattle.spec.specs.Window.{opened, chosen, tamed, windowOf, pictureWindow}
+use Rattle.spec.specs.Value.{full8, full16, normalised, valueOf, paint}
+use Rattle.spec.specs.Stretch.{stretchByte, stretch}
+use Rattle.spec.specs.Grey.{values, greyTests, grey8, grey16}
+use Rattle.spec.specs.Picture.{Picture, Lent, pictureGreys, composed, pictureTests, pictureOf}
+use Rattle.numeric.proofs.Order.{Number}
+use Rattle.numeric.proofs.Picks.{clamped-hi, toUnsigned-le}
+use Rattle.demands.specs.GreyOrder.{Ranked, GreyOrder}
+use Rattle.demands.proofs.Accepted.{done-answer, none-holds, or-false, named-lengths, good-at, good-finite}
+use Rattle.demands.proofs.Painted.{pixels-size, not-clahe, painter, values-map, values-size}
+use Rattle.demands.proofs.ValueOrder.{Finite, value8-order, value16-order}
+use Rattle.demands.proofs.StretchOrder.{stretch-le}
+
+-- ---- a place with mark 1 is a valid pixel of finite dB
+
+mark-below : (m : List ℕ) (i : ℕ) → getD m i 0 ≡ 1 → i < length m
+mark-below [] i h = absurd (omega (arith, h))
+mark-below (k ∷ m) zero h = suc-le-suc zero-le
+mark-below (k ∷ m) (suc i) h = suc-le-suc (mark-below m i h)
+
+pixel-at : (m : List ℕ) (d : List Float) (i : ℕ) → length m ≡ length d → getD m i 0 ≡ 1 → getD (pixels m d) i off ≡ on (getD d i nan)
+unfolding pixels pixel zipWith
+pixel-at [] d i e h = absurd (omega (arith, h))
+pixel-at (k ∷ m) [] i e h = absurd (omega (arith, e))
+pixel-at (k ∷ m) (v ∷ d) zero e h = ap (λ (z : ℕ). pixel z v) h
+pixel-at (k ∷ m) (v ∷ d) (suc i) e h = pixel-at m d i (suc-inj e) h
+
+-- ---- the value of a pixel under a window that the strategies give
+
+-- blank or opened
+abbrev given : Bool → Clip → WindowAnswer
+given blank c = cond blank Blank (opened c)
+
+ValueOrder : Float → Type 0
+ValueOrder full = (c : Clip) (v w : Float) → Finite v → Finite w → T (le v w) → painter full (opened c) (on v) ≤ painter full (opened c) (on w)
+
+order8 : ValueOrder full8
+unfolding ValueOrder painter opened paint
+order8 = value8-order
+
+order16 : ValueOrder full16
+unfolding ValueOrder painter opened paint
+order16 = value16-order
+
+painter-le : (full : Float) → ValueOrder full → (blank : Bool) (c : Clip) (v w : Float) → Finite v → Finite w → T (le v w) →
+    painter full (given blank c) (on v) ≤ painter full (given blank c) (on w)
+unfolding ValueOrder painter
+painter-le full o true c v w a b h = zero-le
+painter-le full o false c v w a b h = o c v w a b h
+
+-- ---- lists
+
+map-in : {A B : Type 0} (f : A → B) (a : A) (b : B) (xs : List A) (i : ℕ) → i < length xs → getD (map f xs) i b ≡ f (getD xs i a)
+map-in f a b [] i h = absurd (not-suc-le-zero h)
+map-in f a b (x ∷ xs) zero h = refl
+map-in f a b (x ∷ xs) (suc i) h = map-in f a b xs i (le-of-suc-le-suc h)
+
+highest-map : {A : Type 0} (f : A → ℕ) (k : ℕ) → ((x : A) → f x ≤ k) → (m : ℕ) → m ≤ k → (xs : List A) → highest m (map f xs) ≤ k
+unfolding highest
+highest-map f k b m h [] = h
+highest-map f k b m h (x ∷ xs) = highest-map f k b (max m (f x)) (let g = b x in omega arith) xs
+
+-- at 8 bits a value is at most 255
+number-full : Number full8
+unfolding ofBits
+number-full = tt
+
+full-is : toUnsigned 64 full8 ≡ 255
+unfolding toUnsigned ofBits
+full-is = refl
+
+painter-255 : (w : WindowAnswer) (p : Pixel) → painter full8 w p ≤ 255
+unfolding painter paint valueOf
+painter-255 (Window low high range gamma) off = zero-le
+painter-255 (Window low high range gamma) (on v) =
+    let x = mul binary64 (normalised low high range v) full8 in
+    le-trans (toUnsigned-le 64 (held zero64 full8 x) full8 (clamped-hi x zero64 full8 number-full)) (le-of-eq full-is)
+painter-255 Blank p = zero-le
+painter-255 (Refused k) p = zero-le
+
+-- ---- a band
+
+module _ (strategy : AutoscaleStrategy) (n : isClahe strategy ≡ false) (rows cols : ℕ) (m : List ℕ) (d : List Float)
+    (e : length m ≡ length d) (good : badDecibel (pixels m d) ≡ false) (blank : Bool) (c : Clip) where
+  raw : Float → List ℕ
+  raw full = values full strategy rows cols (pixels m d) (given blank c)
+
+  size : (full : Float) → length (raw full) ≡ length m
+  unfolding raw
+  size full = values-size full strategy n rows cols (pixels m d) (given blank c) ∙ pixels-size m d e
+
+  value-at : (full : Float) (i : ℕ) → getD m i 0 ≡ 1 → getD (raw full) i 0 ≡ painter full (given blank c) (on (getD d i nan))
+  unfolding raw
+  value-at full i h =
+      ap (λ (xs : List ℕ). getD xs i 0) (values-map full strategy n rows cols (pixels m d) (given blank c))
+      ∙ map-in (painter full (given blank c)) off 0 (pixels m d) i (omega (arith, mark-below m i h, pixels-size m d e))
+      ∙ ap (painter full (given blank c)) (pixel-at m d i e h)
+
+  finite-at : (i : ℕ) → getD m i 0 ≡ 1 → Finite (getD d i nan)
+  unfolding badDecibel
+  finite-at i h = good-finite (getD d i nan) (ap badPixel (sym (pixel-at m d i e h)) ∙ good-at (pixels m d) i good)
+
+  raw-ranked : (full : Float) → ValueOrder full → Ranked m d (raw full)
+  raw-ranked full o i j hi hj h =
+      subst₂ _≤_ (sym (value-at full i hi)) (sym (value-at full j hj))
+      (painter-le full o blank c (getD d i nan) (getD d j nan) (finite-at i hi) (finite-at j hj) h)
+
+  stretched-ranked : Ranked m d (stretch (raw full8))
+  unfolding stretch raw
+  stretched-ranked i j hi hj h =
+      let xs = raw full8 in
+      let f = stretchByte (lowest 65535 xs) (highest 0 xs) in
+      subst₂ _≤_ (sym (map-in f 0 0 xs i (omega (arith, mark-below m i hi, size full8)))) (sym (map-in f 0 0 xs j (omega (arith, mark-below m j hj, size full8))))
+      (stretch-le (lowest 65535 xs) (highest 0 xs) (getD xs i 0) (getD xs j 0) top (raw-ranked full8 order8 i j hi hj h))
+    where
+      top : highest 0 (raw full8) ≤ 65535
+      top =
+        subst (λ (xs : List ℕ). highest 0 xs ≤ 65535) (sym (values-map full8 strategy n rows cols (pixels m d) (given blank c)))
+        (let b = highest-map (painter full8 (given blank c)) 255 (painter-255 (given blank c)) 0 zero-le (pixels m d) in omega (arith, b))
+
+  greys-ranked : Ranked m d (pictureGreys strategy rows cols (pixels m d) (given blank c))
+  unfolding pictureGreys raw
+  greys-ranked = pick (isTamed strategy)
+    where
+      pick : (t : Bool) → Ranked m d (cond t (raw full8) (stretch (raw full8)))
+      pick true = raw-ranked full8 order8
+      pick false = stretched-ranked
+
+-- ---- the calls
+
+module _ (strategy : AutoscaleStrategy) (n : isClahe strategy ≡ false) (rows cols : ℕ) (m : List ℕ) (d : List Float) (out work : ℕ) where
+  -- what the tests of a grey call leave
+  accepted : (w : WindowAnswer) → firstOf 1 (greyTests strategy rows cols m d out work (pixels m d) w) ≡ 0 → (length m ≡ length d) × (badDecibel (pixels m d) ≡ false)
+  unfolding greyTests
+  accepted w e =
+      let h = none-holds 0 _ e in
+      (named-lengths rows cols m d (or-false _ (unlike out (rows * cols)) (or-false _ (workUnlike strategy work) (h .1 .0) .0) .0), h .1 .1 .1 .0)
+
+  grey8-ranked : (greys : List ℕ) → grey8 strategy rows cols m d out work ≡ done greys → Ranked m d greys
+  unfolding grey8 windowOf raw
+  grey8-ranked greys e =
+      let h = done-answer _ _ _ e in
+      let a = accepted _ (h .0) in
+      subst (Ranked m d) (h .1) (stretched-ranked strategy n rows cols m d (a .0) (a .1) (eqb (statisticsOf (pixels m d) .«valid_count») 0) (chosen strategy (statisticsOf (pixels m d))))
+
+  grey16-ranked : (greys : List ℕ) → grey16 strategy rows cols m d out work ≡ done greys → Ranked m d greys
+  unfolding grey16 windowOf raw
+  grey16-ranked greys e =
+      let h = done-answer _ _ _ e in
+      let a = accepted _ (h .0) in
+      subst (Ranked m d) (h .1) (raw-ranked strategy n rows cols m d (a .0) (a .1) (eqb (statisticsOf (pixels m d) .«valid_count») 0) (chosen strategy (statisticsOf (pixels m d))) full16 order16)
+
+module _ (strategy : AutoscaleStrategy) (n : isClahe strategy ≡ false) (mode : SyntheticRgbMode) (rows cols : ℕ) (m1 : List ℕ) (d1 : List Float) (m2 : List ℕ) (d2 : List Float) (lent : Lent) where
+  picture-accepted : (w1 w2 : WindowAnswer) → firstOf 1 (pictureTests strategy rows cols m1 d1 m2 d2 lent (pixels m1 d1) (pixels m2 d2) w1 w2) ≡ 0 →
+      (length m1 ≡ length d1) × (badDecibel (pixels m1 d1) ≡ false) × (length m2 ≡ length d2) × (badDecibel (pixels m2 d2) ≡ false)
+  unfolding pictureTests
+  picture-accepted w1 w2 e =
+      let h = none-holds 0 _ e in
+      let named = or-false (notNamed rows cols m1 d1 || notNamed rows cols m2 d2) (unlike (lent .grey1) (rows * cols))
+        (or-false _ (unlike (lent .grey2) (rows * cols)) (or-false _ (unlike (lent .colours) (3 * (rows * cols))) (or-false _ (workUnlike strategy (lent .work)) (h .1 .0) .0) .0) .0) .0 in
+      let names = or-false (notNamed rows cols m1 d1) (notNamed rows cols m2 d2) named in
+      let good = or-false (badDecibel (pixels m1 d1)) (badDecibel (pixels m2 d2)) (h .1 .1 .1 .0) in
+      (named-lengths rows cols m1 d1 (names .0), good .0, named-lengths rows cols m2 d2 (names .1), good .1)
+
+  picture-ranked : (p : Picture) → pictureOf strategy mode rows cols m1 d1 m2 d2 lent ≡ done p → Ranked m1 d1 (p .grey1) × Ranked m2 d2 (p .grey2)
+  unfolding pictureOf composed pictureWindow
+  picture-ranked p e =
+      let h = done-answer _ _ _ e in
+      let a = picture-accepted _ _ (h .0) in
+      let s1 = statisticsOf (pixels m1 d1) in
+      let s2 = statisticsOf (pixels m2 d2) in
+      (subst (Ranked m1 d1) (ap (λ (q : Picture). q .grey1) (h .1))
+        (greys-ranked strategy n rows cols m1 d1 (a .0) (a .1) (eqb (s1 .«valid_count») 0) (cond (isTamed strategy) (tamed true s1) (chosen strategy s1))),
+      subst (Ranked m2 d2) (ap (λ (q : Picture). q .grey2) (h .1))
+        (greys-ranked strategy n rows cols m2 d2 (a .2) (a .3) (eqb (s2 .«valid_count») 0) (cond (isTamed strategy) (tamed false s2) (chosen strategy s2))))
+
+pub grey-order : GreyOrder
+grey-order =
+    record {
+      at-8-bits = λ strategy n rows cols m d out work. grey8-ranked strategy (not-clahe strategy n) rows cols m d out work;
+      at-16-bits = λ strategy n rows cols m d out work. grey16-ranked strategy (not-clahe strategy n) rows cols m d out work;
+      picture = λ strategy n mode rows cols m1 d1 m2 d2 lent. picture-ranked strategy (not-clahe strategy n) mode rows cols m1 d1 m2 d2 lent
+    }

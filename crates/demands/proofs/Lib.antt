@@ -1,0 +1,12 @@
+pub mod Accepted
+pub mod Counted
+pub mod Painted
+pub mod Alteration
+pub mod ValueOrder
+pub mod StretchOrder
+pub mod GreyOrder
+pub mod FirstMet
+pub mod Steadiness
+pub mod Moved
+pub mod Reordering
+pub mod Sides

@@ -1,0 +1,60 @@
+-- A band has as many pixels as marks, and outside Clahe it is painted pixel by pixel. Assumes nothing.
+use mathlib.Core.Path.{_≡_, refl, ap, _∙_}
+use mathlib.Core.Bool.{false}
+use mathlib.Core.List.{List, [], _∷_, map, zipWith}
+use Prim.Native.Nat.{ℕ, suc}
+use native.Mathlib.Nat.{suc-inj}
+use native.Mathlib.Omega.{arith}
+use lib.ListN.{length, length-map}
+use lib.Ieee.{Float}
+use Rattle.types.specs.declared.AutoscaleStrategy.{AutoscaleStrategy}
+use Rattle.types.specs.declared.AutoscaleStrategy.the-variants.{Standard, Robust, Adaptive, Equalized, Clahe, Tamed, Default}
+use Rattle.types.specs.declared.WindowAnswer.{WindowAnswer}
+use Rattle.types.specs.declared.WindowAnswer.the-variants.{Window, Blank, Refused}
+use Rattle.spec.specs.Pixels.{Pixel, off, pixel, pixels}
+use Rattle.spec.specs.Strategies.{isClahe}
+use Rattle.spec.specs.Value.{paint}
+use Rattle.spec.specs.Grey.{black, values}
+
+pub zip-size : {A B C : Type 0} (f : A → B → C) (xs : List A) (ys : List B) → length xs ≡ length ys → length (zipWith f xs ys) ≡ length xs
+unfolding zipWith
+zip-size f [] ys e = refl
+zip-size f (x ∷ xs) [] e = absurd (omega (arith, e))
+zip-size f (x ∷ xs) (y ∷ ys) e = ap suc (zip-size f xs ys (suc-inj e))
+
+pub pixels-size : (m : List ℕ) (d : List Float) → length m ≡ length d → length (pixels m d) ≡ length m
+unfolding pixels
+pixels-size m d e = zip-size pixel m d e
+
+pub not-clahe : (strategy : AutoscaleStrategy) → (strategy ≡ Clahe → ⊥) → isClahe strategy ≡ false
+unfolding isClahe
+not-clahe Standard n = refl
+not-clahe Robust n = refl
+not-clahe Adaptive n = refl
+not-clahe Equalized n = refl
+not-clahe Clahe n = absurd (n refl)
+not-clahe Tamed n = refl
+not-clahe Default n = refl
+
+-- the value of one pixel under a window
+unfoldable pub painter : Float → WindowAnswer → Pixel → ℕ
+painter full (Window low high range gamma) p = paint full low high range p
+painter full Blank p = 0
+painter full (Refused k) p = 0
+
+pub painter-off : (full : Float) (w : WindowAnswer) → painter full w off ≡ 0
+unfolding painter paint
+painter-off full (Window low high range gamma) = refl
+painter-off full Blank = refl
+painter-off full (Refused k) = refl
+
+pub values-map : (full : Float) (strategy : AutoscaleStrategy) → isClahe strategy ≡ false → (rows cols : ℕ) (px : List Pixel) (w : WindowAnswer) →
+    values full strategy rows cols px w ≡ map (painter full w) px
+unfolding values black painter
+values-map full strategy c rows cols px (Window low high range gamma) = rw c refl
+values-map full strategy c rows cols px Blank = refl
+values-map full strategy c rows cols px (Refused k) = refl
+
+pub values-size : (full : Float) (strategy : AutoscaleStrategy) → isClahe strategy ≡ false → (rows cols : ℕ) (px : List Pixel) (w : WindowAnswer) →
+    length (values full strategy rows cols px w) ≡ length px
+values-size full strategy c rows cols px w = ap length (values-map full strategy c rows cols px w) ∙ length-map px (painter full w)

@@ -1,0 +1,221 @@
+-- Statistics that are the same numbers outside mean and deviation give windows that paint alike, in every strategy but Adaptive. Assumes nothing.
+use mathlib.Core.Path.{_≡_, refl, sym, ap, _∙_, subst}
+use mathlib.Core.Bool.{Bool, true, false, cond, true≢false}
+use mathlib.Core.List.{List, List·Permᴰ}
+use Prim.Native.Nat.{ℕ, min}
+use lib.Dec.{T, eqb}
+use lib.IntN.{pos}
+use lib.Ieee.{Float, fin, binary64, sub, div, lt, ne, ofBits}
+use lib.Ieee.Positive.{positive}
+use Rattle.types.specs.declared.AutoscaleStrategy.{AutoscaleStrategy}
+use Rattle.types.specs.declared.AutoscaleStrategy.the-variants.{Standard, Robust, Adaptive, Equalized, Clahe, Tamed, Default}
+use Rattle.types.specs.declared.Clip.{Clip}
+use Rattle.types.specs.declared.HistogramStats.{HistogramStats}
+use Rattle.types.specs.declared.Moments.{Moments}
+use Rattle.types.specs.declared.Percentile.{Percentile}
+use Rattle.types.specs.declared.WindowAnswer.{WindowAnswer}
+use Rattle.types.specs.declared.WindowAnswer.the-variants.{Blank}
+use Rattle.spec.specs.Floats.{half64, one64, two64, larger}
+use Rattle.spec.specs.Lists.{counts}
+use Rattle.spec.specs.Number.{Alike, same, zeros}
+use Rattle.spec.specs.Pixels.{Pixel, off, on}
+use Rattle.spec.specs.Bins.{bins64, binOf, histogram}
+use Rattle.spec.specs.Percentile.{valueAt, percentile}
+use Rattle.spec.specs.Statistics.{gathered, flatPercentile, spreadPercentile, flat64, summary}
+use Rattle.spec.specs.Strategies.{isTamed}
+use Rattle.spec.specs.Value.{normalised, valueOf, paint}
+use Rattle.spec.specs.Window.{inside, narrow, outlier, heavy, wide, normal, standard, robust, chosen, tamed, opened, pictureWindow, otherGamma}
+use Rattle.lists.proofs.Counts.{counts-perm}
+use Rattle.lists.proofs.Reorder.{perm-map, map-same}
+use Rattle.numeric.proofs.Alike.{add-alike, sub-alike, mul-alike, mul-alike-right, div-alike, lt-alike, larger-alike, smaller-alike, held-alike, whole-alike, larger-same}
+use Rattle.demands.proofs.Painted.{painter}
+
+-- ---- where a zero's sign ends
+
+-- the bin of a value
+bin-alike : (inv : Float) {least least′ : Float} → Alike least least′ → (v : Float) → binOf least inv v ≡ binOf least′ inv v
+unfolding binOf
+bin-alike inv p v = ap (λ (b : ℕ). min b 4095) (whole-alike (mul-alike bins64 (held-alike same same (mul-alike inv (sub-alike same p)))))
+
+-- a span that is not flat is no zero
+nil-flat : (s : Bool) → lt (fin s 0 (pos 0)) flat64 ≡ true
+unfolding lt ofBits
+nil-flat true = refl
+nil-flat false = refl
+
+spread-same : {x x′ : Float} → Alike x x′ → lt x flat64 ≡ false → x ≡ x′
+spread-same same e = refl
+spread-same (zeros s t) e = absurd (true≢false (sym (nil-flat s) ∙ e))
+
+-- the range is at least 1
+one-positive : T (positive one64)
+unfolding ofBits
+one-positive = tt
+
+range-alike : {low low′ high high′ : Float} → Alike low low′ → Alike high high′ → larger (sub binary64 high low) one64 ≡ larger (sub binary64 high′ low′) one64
+range-alike p q = larger-same one64 one-positive (sub-alike q p)
+
+-- the value of a pixel
+value-alike : (full range v : Float) {low low′ high high′ : Float} → Alike low low′ → Alike high high′ →
+    valueOf full low high range v ≡ valueOf full low′ high′ range v
+unfolding valueOf normalised
+value-alike full range v p q = whole-alike (held-alike same same (mul-alike full (div-alike range (sub-alike (held-alike p q same) p))))
+
+-- ---- statistics
+
+-- the same numbers: mean and deviation may differ
+pub record SameMoments (s s′ : Moments) : Type 0 where
+  pub count : s .count ≡ s′ .count
+  pub least : Alike (s .«min_db») (s′ .«min_db»)
+  pub greatest : Alike (s .«max_db») (s′ .«max_db»)
+
+pub record SameNumbers (s s′ : HistogramStats) : Type 0 where
+  pub count : s .«valid_count» ≡ s′ .«valid_count»
+  pub least : Alike (s .«min_db») (s′ .«min_db»)
+  pub greatest : Alike (s .«max_db») (s′ .«max_db»)
+  pub median : Alike (s .«median_db») (s′ .«median_db»)
+  pub p01 : Alike (s .p01) (s′ .p01)
+  pub p02 : Alike (s .p02) (s′ .p02)
+  pub p05 : Alike (s .p05) (s′ .p05)
+  pub p10 : Alike (s .p10) (s′ .p10)
+  pub p25 : Alike (s .p25) (s′ .p25)
+  pub p75 : Alike (s .p75) (s′ .p75)
+  pub p90 : Alike (s .p90) (s′ .p90)
+  pub p95 : Alike (s .p95) (s′ .p95)
+  pub p98 : Alike (s .p98) (s′ .p98)
+  pub p99 : Alike (s .p99) (s′ .p99)
+
+pick-numbers : (q q′ : Bool) → q ≡ q′ → {a a′ b b′ : HistogramStats} → (q ≡ true → SameNumbers a a′) → (q ≡ false → SameNumbers b b′) → SameNumbers (cond q a b) (cond q′ a′ b′)
+pick-numbers true true e f g = f refl
+pick-numbers false false e f g = g refl
+pick-numbers true false e f g = absurd (true≢false e)
+pick-numbers false true e f g = absurd (true≢false (sym e))
+
+module _ (s s′ : Moments) (h : SameMoments s s′) where
+  gathered-alike : (f f′ : Float → Percentile) → ((p : Float) → Alike (f p .value) (f′ p .value)) → SameNumbers (gathered s f) (gathered s′ f′)
+  unfolding gathered
+  gathered-alike f f′ a =
+      record {
+        count = h .count; least = h .least; greatest = h .greatest; median = a _; p01 = a _; p02 = a _; p05 = a _; p10 = a _; p25 = a _;
+        p75 = a _; p90 = a _; p95 = a _; p98 = a _; p99 = a _
+      }
+
+  flat-alike : (p : Float) → Alike (flatPercentile s p .value) (flatPercentile s′ p .value)
+  unfolding flatPercentile
+  flat-alike p = pick (lt half64 p)
+    where
+      pick : (q : Bool) → Alike (cond q (s .«max_db») (s .«min_db»)) (cond q (s′ .«max_db») (s′ .«min_db»))
+      pick true = h .greatest
+      pick false = h .least
+
+  -- the bins do not see a zero's sign, and counting does not see the order
+  spread-alike : (span : Float) {vs vs′ : List Float} → List·Permᴰ vs vs′ → (p : Float) → Alike (spreadPercentile s span vs p .value) (spreadPercentile s′ span vs′ p .value)
+  unfolding spreadPercentile percentile valueAt histogram
+  spread-alike span {vs} {vs′} o p =
+      let hist = counts-perm 4096 (perm-map (binOf (s .«min_db») (div binary64 one64 span)) o) ∙ ap (counts 4096) (map-same (binOf (s .«min_db») (div binary64 one64 span)) (binOf (s′ .«min_db») (div binary64 one64 span)) (bin-alike (div binary64 one64 span) (h .least)) vs′) in
+      rw (hist, h .count) (add-alike (add-alike (h .least) same) same)
+
+  -- of two reordered lists of values
+  pub summary-alike : {vs vs′ : List Float} → List·Permᴰ vs vs′ → SameNumbers (summary s vs) (summary s′ vs′)
+  unfolding summary
+  summary-alike {vs} {vs′} o =
+      pick-numbers (lt span flat64) (lt span′ flat64) (lt-alike alike same) (λ e. gathered-alike (flatPercentile s) (flatPercentile s′) flat-alike)
+      (λ e. subst (λ (x : Float). SameNumbers (gathered s (spreadPercentile s span vs)) (gathered s′ (spreadPercentile s′ x vs′))) (spread-same alike e)
+        (gathered-alike (spreadPercentile s span vs) (spreadPercentile s′ span vs′) (spread-alike span o)))
+    where
+      span : Float
+      span = sub binary64 (s .«max_db») (s .«min_db»)
+      span′ : Float
+      span′ = sub binary64 (s′ .«max_db») (s′ .«min_db»)
+      alike : Alike span span′
+      alike = sub-alike (h .greatest) (h .least)
+
+-- ---- windows
+
+pub record SameClip (c c′ : Clip) : Type 0 where
+  pub low : Alike (c .low) (c′ .low)
+  pub high : Alike (c .high) (c′ .high)
+  pub gamma : c .gamma ≡ c′ .gamma
+
+either : (q q′ : Bool) {a a′ b b′ : Clip} → q ≡ q′ → SameClip a a′ → SameClip b b′ → SameClip (cond q a b) (cond q′ a′ b′)
+either true true e p r = p
+either false false e p r = r
+either true false e p r = absurd (true≢false e)
+either false true e p r = absurd (true≢false (sym e))
+
+module _ (s s′ : HistogramStats) (h : SameNumbers s s′) where
+  inside-alike : (g : Float) {l l′ t t′ : Float} → Alike l l′ → Alike t t′ → SameClip (inside s l t g) (inside s′ l′ t′ g)
+  unfolding inside
+  inside-alike g p q = record { low = larger-alike p (h .least); high = smaller-alike q (h .greatest); gamma = refl }
+
+  spread : Alike (sub binary64 (s .«max_db») (s .«min_db»)) (sub binary64 (s′ .«max_db») (s′ .«min_db»))
+  spread = sub-alike (h .greatest) (h .least)
+
+  iqr : Alike (sub binary64 (s .p75) (s .p25)) (sub binary64 (s′ .p75) (s′ .p25))
+  iqr = sub-alike (h .p75) (h .p25)
+
+  reach : Alike (outlier (sub binary64 (s .p75) (s .p25))) (outlier (sub binary64 (s′ .p75) (s′ .p25)))
+  unfolding outlier
+  reach = mul-alike-right _ iqr
+
+  standard-alike : SameClip (standard s) (standard s′)
+  unfolding standard narrow heavy wide normal
+  standard-alike =
+      let r = larger-alike same (mul-alike (ofBits binary64 0x3fe9_9999_9999_999a) spread) in
+      let margin = mul-alike-right (ofBits binary64 0x3f94_7ae1_47ae_147b) spread in
+      either _ _ (lt-alike spread same) (inside-alike _ (sub-alike (h .median) (div-alike two64 r)) (add-alike (h .median) (div-alike two64 r)))
+      (either _ _ (lt-alike iqr same) (inside-alike _ (sub-alike (h .p25) reach) (add-alike (h .p75) reach))
+      (either _ _ (lt-alike same spread)
+        (inside-alike _ (larger-alike (h .p02) (add-alike (h .least) margin)) (smaller-alike (h .p98) (sub-alike (h .greatest) margin)))
+        (inside-alike _ (h .p02) (h .p98))))
+
+  chosen-alike : (strategy : AutoscaleStrategy) → (strategy ≡ Adaptive → ⊥) → SameClip (chosen strategy s) (chosen strategy s′)
+  unfolding chosen robust
+  chosen-alike Standard n = standard-alike
+  chosen-alike Robust n =
+      record {
+        low = larger-alike (larger-alike (sub-alike (h .p25) reach) (h .p01)) (h .least);
+        high = smaller-alike (smaller-alike (add-alike (h .p75) reach) (h .p99)) (h .greatest);
+        gamma = refl
+      }
+  chosen-alike Adaptive n = absurd (n refl)
+  chosen-alike Equalized n = record { low = h .p01; high = h .p99; gamma = refl }
+  chosen-alike Clahe n = record { low = h .p01; high = h .p99; gamma = refl }
+  chosen-alike Tamed n = record { low = h .p25; high = h .p99; gamma = refl }
+  chosen-alike Default n = record { low = h .p05; high = h .p95; gamma = refl }
+
+  tamed-alike : (copol : Bool) → SameClip (tamed copol s) (tamed copol s′)
+  unfolding tamed
+  tamed-alike true = record { low = smaller-alike (h .p02) (h .p05); high = h .p99; gamma = refl }
+  tamed-alike false = record { low = h .p05; high = h .p99; gamma = refl }
+
+-- ---- painting
+
+-- two windows of which one paints as the other
+pub record Steady (w w′ : WindowAnswer) : Type 0 where
+  pub gamma : otherGamma w ≡ otherGamma w′
+  pub paints : (full : Float) (p : Pixel) → painter full w p ≡ painter full w′ p
+
+opened-alike : (c c′ : Clip) → SameClip c c′ → Steady (opened c) (opened c′)
+unfolding opened otherGamma painter paint
+opened-alike c c′ a = record { gamma = ap (λ (g : Float). ne g one64) (a .gamma); paints = paints }
+  where
+    paints : (full : Float) (p : Pixel) → painter full (opened c) p ≡ painter full (opened c′) p
+    paints full off = refl
+    paints full (on v) = rw (range-alike (a .low) (a .high)) (value-alike full _ v (a .low) (a .high))
+
+-- the window that a picture paints a band with
+pub window-steady : (strategy : AutoscaleStrategy) → (strategy ≡ Adaptive → ⊥) → (copol : Bool) (s s′ : HistogramStats) → SameNumbers s s′ →
+    Steady (pictureWindow strategy copol s) (pictureWindow strategy copol s′)
+unfolding pictureWindow
+window-steady strategy n copol s s′ h =
+    none (eqb (s .«valid_count») 0) (eqb (s′ .«valid_count») 0) (ap (λ (n : ℕ). eqb n 0) (h .count)) (opened-alike _ _ (which (isTamed strategy)))
+  where
+    which : (t : Bool) → SameClip (cond t (tamed copol s) (chosen strategy s)) (cond t (tamed copol s′) (chosen strategy s′))
+    which true = tamed-alike s s′ h copol
+    which false = chosen-alike s s′ h strategy n
+    none : (t t′ : Bool) → t ≡ t′ → {w w′ : WindowAnswer} → Steady w w′ → Steady (cond t Blank w) (cond t′ Blank w′)
+    none true true e k = record { gamma = refl; paints = λ full p. refl }
+    none false false e k = k
+    none true false e k = absurd (true≢false e)
+    none false true e k = absurd (true≢false (sym e))

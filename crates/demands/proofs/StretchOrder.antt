@@ -1,0 +1,181 @@
+-- `stretchByte` keeps the order, between any ends lo < hi ≤ 65535. Assumes nothing.
+use mathlib.Core.Path.{_≡_, refl, sym, _∙_, subst}
+use Prim.Native.Nat.{ℕ, _+_, _*_, _/_, _^_, _-_, _≤_, _<_, min, zero-le}
+use native.Mathlib.Omega.{arith}
+use native.Mathlib.Nat.{add-mul, mul-assoc, mul-comm, mul-left-comm, mul-le-mul-right, mul-one, mul-pos}
+use mathlib.Core.Bool.{Bool, cond, true, false, true≢false}
+use lib.Dec.{T, ltb, ltb→lt, lit<}
+use lib.Ieee.{Float, nan, inf, fin, binary32, up, down, round, sub, mul, div, le, ofInt, ofBits}
+use lib.Ieee.Back.{round-whole}
+use lib.Ieee.Exact.{HasValue}
+use lib.Ieee.Fits.{down-pos}
+use lib.Ieee.Nearest.{div-mono}
+use lib.Ieee.Order.{round-mono}
+use lib.Ieee.Positive.{num, den, den-pos, positive, positive-finite, between}
+use lib.Ieee.Scale.{finite}
+use Rattle.spec.specs.Floats.{rounded}
+use Rattle.spec.specs.Stretch.{of16, stretchByte}
+use Rattle.numeric.proofs.Order.{plus, less, le→cross, only-top, none}
+use Rattle.numeric.proofs.Round.{Rounds, rounds-le}
+use Rattle.numeric.proofs.Ops.{sub-le, mul-le, sub-rounds, div-rounds, num-pos}
+
+-- ---- `rounded`
+
+-- a / c to the nearest whole number, and up from halfway
+abbrev half-up : ℕ → ℕ → ℕ
+half-up a c = (a * 2 + c) / (c * 2)
+
+half-mono : (a c b d : ℕ) → 0 < c → 0 < d → a * d ≤ b * c → half-up a c ≤ half-up b d
+half-mono a c b d C D h = div-mono (a * 2 + c) (c * 2) (b * 2 + d) (d * 2) (mul-pos C (lit< tt)) (mul-pos D (lit< tt)) (wide a c b d h)
+  where
+    wide : (a c b d : ℕ) → a * d ≤ b * c → (a * 2 + c) * (d * 2) ≤ (b * 2 + d) * (c * 2)
+    wide a c b d h = simp (add-mul, mul-assoc, mul-comm, mul-left-comm) (omega (arith, simp (mul-comm) at h))
+
+pub rounded-le : (x y : Float) → T (le x y) → rounded x ≤ rounded y
+unfolding rounded le
+rounded-le nan y h = absurd h
+rounded-le (inf true) y h = zero-le
+rounded-le (inf false) y h = subst (λ (z : Float). 2 ^ 64 - 1 ≤ rounded z) (sym (only-top y h)) (omega arith)
+rounded-le (fin s m e) nan h = absurd h
+rounded-le (fin s m e) (inf true) h = absurd h
+rounded-le (fin true m e) (inf false) h = zero-le
+rounded-le (fin false m e) (inf false) h = omega arith
+rounded-le (fin true m e) (fin t n d) h = zero-le
+rounded-le (fin false m e) (fin true n d) h =
+    let k = le→cross (fin false m e) (fin true n d) tt tt h in
+    let a : half-up (m * up e) (down e) ≤ half-up 0 1 = half-mono (m * up e) (down e) 0 1 (down-pos e) (lit< tt) (nothing (m * up e) (down d) (down-pos d) (omega arith)) in
+    omega arith
+  where
+    nothing : (a c : ℕ) → 0 < c → a * c ≤ 0 → a * 1 ≤ 0 * down e
+    nothing a c C g = let z = none a c C g in omega arith
+rounded-le (fin false m e) (fin false n d) h =
+    let k = le→cross (fin false m e) (fin false n d) tt tt h in
+    let a = half-mono (m * up e) (down e) (n * up d) (down d) (down-pos e) (down-pos d) (omega arith) in
+    omega arith
+
+-- ---- whole numbers
+
+whole-value : (k : ℕ) → k ≤ 2 ^ 24 → HasValue (of16 k) false k 1
+unfolding ofInt
+whole-value k h = round-whole binary32 false k h
+
+of16-le : (x y : ℕ) → x ≤ y → T (le (of16 x) (of16 y))
+unfolding ofInt
+of16-le x y h = round-mono binary32 x 1 y 1 (lit< tt) (lit< tt) (omega arith)
+
+parts : (x : Float) (a : ℕ) → HasValue x false a 1 → T (finite x) × (plus x ≡ a * den x) × (less x ≡ 0)
+parts nan a h = absurd h
+parts (inf s) a h = absurd h
+parts (fin true m e) a h = absurd (true≢false (h .0))
+parts (fin false m e) a h = (tt, sym (mul-one (m * up e)) ∙ h .1, refl)
+
+-- ---- 1.0, 65535.0 and 255 / 65535, as rounded fractions
+
+abbrev one32 : Float
+one32 = ofBits binary32 0x3f80_0000
+
+abbrev full32 : Float
+full32 = ofBits binary32 0x437f_0000
+
+abbrev wide32 : Float
+wide32 = ofBits binary32 0x477f_ff00
+
+one-rounds : Rounds binary32 one32 1 0 1
+unfolding round ofBits
+one-rounds = record { sign = false; size = 1; is = refl; value = refl }
+
+full-rounds : Rounds binary32 full32 255 0 1
+unfolding round ofBits
+full-rounds = record { sign = false; size = 255; is = refl; value = refl }
+
+wide-rounds : Rounds binary32 wide32 65535 0 1
+unfolding round ofBits
+wide-rounds = record { sign = false; size = 65535; is = refl; value = refl }
+
+-- 1 / 512
+abbrev little32 : Float
+little32 = ofBits binary32 0x3b00_0000
+
+little-rounds : Rounds binary32 little32 1 0 512
+unfolding round ofBits
+little-rounds = record { sign = false; size = 1; is = refl; value = refl }
+
+positive-between : (z : Float) → T (le one32 z) → T (le z wide32) → T (positive z)
+unfolding ofBits
+positive-between z h k = between one32 z wide32 tt tt h k
+
+-- ---- hi - lo, from 1.0 to 65535.0
+
+apart : (a b dx dy px lx py ly : ℕ) → px ≡ a * dx → lx ≡ 0 → py ≡ b * dy → ly ≡ 0 → b < a → 1 * (dx * dy) + (lx * dy + py * dx) * 1 ≤ (px * dy + ly * dx) * 1 + 0 * (dx * dy)
+apart a b dx dy px lx py ly p l q m h =
+    let g = simp (mul-comm, mul-left-comm) at (mul-le-mul-right (dx * dy) h) in
+    rw (p, l, q, m) (simp (mul-assoc, mul-comm) (omega (arith, g)))
+
+within : (a b dx dy px lx py ly : ℕ) → px ≡ a * dx → lx ≡ 0 → py ≡ b * dy → ly ≡ 0 → a ≤ 65535 → (px * dy + ly * dx) * 1 + 0 * (dx * dy) ≤ 65535 * (dx * dy) + (lx * dy + py * dx) * 1
+within a b dx dy px lx py ly p l q m h =
+    let g = mul-le-mul-right (dx * dy) h in
+    rw (p, l, q, m) (simp (mul-assoc, mul-comm) (omega (arith, g)))
+
+parts-of : (z : Float) → T (positive z) → (plus z ≡ num z) × (less z ≡ 0)
+parts-of nan p = absurd p
+parts-of (inf s) p = absurd p
+parts-of (fin true m e) p = absurd p
+parts-of (fin false m e) p = (refl, refl)
+
+-- 255.0 over it is from 1/512 to 255.0
+over-ge : (d : Float) → T (le one32 d) → T (le d wide32) → T (le little32 (div binary32 full32 d))
+unfolding ofBits
+over-ge d h k =
+    let p = positive-between d h k in
+    let c = le→cross d wide32 (positive-finite d p) tt k in
+    rounds-le binary32 little32 (div binary32 full32 d) 1 0 512 (plus full32 * den d) (less full32 * den d) (num d * den full32)
+    (lit< tt) (mul-pos (num-pos d p) (den-pos full32)) little-rounds (div-rounds binary32 full32 d tt p) (omega (arith, parts-of d p))
+
+over-le : (d : Float) → T (le one32 d) → T (le d wide32) → T (le (div binary32 full32 d) full32)
+unfolding ofBits
+over-le d h k =
+    let p = positive-between d h k in
+    let c = le→cross one32 d tt (positive-finite d p) h in
+    rounds-le binary32 (div binary32 full32 d) full32 (plus full32 * den d) (less full32 * den d) (num d * den full32) 255 0 1
+    (mul-pos (num-pos d p) (den-pos full32)) (lit< tt) (div-rounds binary32 full32 d tt p) full-rounds (omega (arith, parts-of d p))
+
+scale-between : (z : Float) → T (le little32 z) → T (le z full32) → T (positive z)
+unfolding ofBits
+scale-between z h k = between little32 z full32 tt tt h k
+
+scale-positive : (lo hi : ℕ) → lo < hi → hi ≤ 65535 → T (positive (div binary32 full32 (sub binary32 (of16 hi) (of16 lo))))
+scale-positive lo hi h k =
+    let x = of16 hi in
+    let y = of16 lo in
+    let X = parts x hi (whole-value hi (omega arith)) in
+    let Y = parts y lo (whole-value lo (omega arith)) in
+    let d = sub binary32 x y in
+    let r = sub-rounds binary32 x y (X .0) (Y .0) in
+    let c = mul-pos (den-pos x) (den-pos y) in
+    let least : T (le one32 d) =
+    rounds-le binary32 one32 d 1 0 1 (plus x * den y + less y * den x) (less x * den y + plus y * den x) (den x * den y) (lit< tt) c one-rounds r
+    (apart hi lo (den x) (den y) (plus x) (less x) (plus y) (less y) (X .1) (X .2) (Y .1) (Y .2) h) in
+    let most : T (le d wide32) =
+    rounds-le binary32 d wide32 (plus x * den y + less y * den x) (less x * den y + plus y * den x) (den x * den y) 65535 0 1 c (lit< tt) r wide-rounds
+    (within hi lo (den x) (den y) (plus x) (less x) (plus y) (less y) (X .1) (X .2) (Y .1) (Y .2) k) in
+    scale-between (div binary32 full32 d) (over-ge d least most) (over-le d least most)
+
+-- of two numbers the larger is stretched to no smaller byte
+pub stretch-le : (lo hi x y : ℕ) → hi ≤ 65535 → x ≤ y → stretchByte lo hi x ≤ stretchByte lo hi y
+unfolding stretchByte
+stretch-le lo hi x y k g = pick (ltb lo hi) (λ e. apart-le (ltb→lt lo hi e))
+  where
+    q : Float
+    q = div binary32 full32 (sub binary32 (of16 hi) (of16 lo))
+    byte : ℕ → ℕ
+    byte z = min (rounded (mul binary32 (sub binary32 (of16 z) (of16 lo)) q)) 255
+    apart-le : lo < hi → byte x ≤ byte y
+    apart-le h =
+      let fl : T (finite (of16 lo)) = parts (of16 lo) lo (whole-value lo (omega arith)) .0 in
+      let a = sub-le binary32 (of16 lo) fl (of16 x) (of16 y) (of16-le x y g) in
+      let b = rounded-le (mul binary32 (sub binary32 (of16 x) (of16 lo)) q) (mul binary32 (sub binary32 (of16 y) (of16 lo)) q)
+        (mul-le binary32 q (scale-positive lo hi h k) (sub binary32 (of16 x) (of16 lo)) (sub binary32 (of16 y) (of16 lo)) a) in
+      omega (arith, b)
+    pick : (t : Bool) → (T t → byte x ≤ byte y) → cond t (byte x) 0 ≤ cond t (byte y) 0
+    pick true f = f tt
+    pick false f = zero-le

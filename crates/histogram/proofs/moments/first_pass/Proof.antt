@@ -1,0 +1,88 @@
+-- `histogram::moments::first_pass` meets its contract. Assumes nothing.
+use mathlib.Core.Path.{_≡_, sym, _∙_}
+use mathlib.Core.Logic.{⊎-elim}
+use Prim.Native.Nat.{_-_}
+use native.Mathlib.Omega.{arith}
+use lib.ListN.{length}
+use Rattle.spec.specs.Moments.{momentsFrom}
+use Rattle.histogram.specs.Passes.{firstPass}
+use Rattle.histogram.proofs.Passes.{Along, moments-fold, start, finish, skip, bad, take}
+use borrow.Author.Needs.{needs}
+use Rattle.histogram.proofs.moments.first_pass.Statement.{statement}
+use Rattle.histogram.proofs.moments.first_pass.Tie as tie
+
+abbrev Inv-loop : tie.InvT-loop
+Inv-loop db valid-mask m₀ i₀ m i = Along momentsFrom valid-mask db m i
+
+abbrev μ-loop : tie.MeasureT-loop
+μ-loop db valid-mask m₀ i₀ m i = length db - i
+
+no-moments-requires : tie.Need-no-moments-requires Inv-loop μ-loop
+no-moments-requires c κs = search needs
+
+loop-holds : tie.Need-loop-holds Inv-loop μ-loop
+loop-holds c = start moments-fold _ _ _ (c .no-moments .ensures)
+
+shared-slice-read-if1 : tie.Need-shared-slice-read-if1 Inv-loop μ-loop
+shared-slice-read-if1 c = search needs
+
+mul-v : tie.Need-mul-v Inv-loop μ-loop
+mul-v c = search needs
+
+shared-slice-read-v : tie.Need-shared-slice-read-v Inv-loop μ-loop
+shared-slice-read-v c = search needs
+
+decibel-refused-requires : tie.Need-decibel-refused-requires Inv-loop μ-loop
+decibel-refused-requires c κs = search needs
+
+returns : tie.Need-returns Inv-loop μ-loop
+unfolding firstPass
+returns c =
+    let l = c .before .before .before .before .before .before in
+    let a = l .before .before .before .before .args in
+    sym (bad moments-fold (a .valid-mask .now) (a .db .now) (l .loop .m) (l .loop .i) (l .loop .inv) (omega arith) (omega arith) (c .before .before .before .if1 .taken)
+    (sym (c .before .decibel-refused .ensures) ∙ c .if2 .taken))
+
+with-value-requires : tie.Need-with-value-requires Inv-loop μ-loop
+with-value-requires c κs = search needs
+
+add-i : tie.Need-add-i Inv-loop μ-loop
+add-i c = search needs
+
+loop-less : tie.Need-loop-less Inv-loop μ-loop
+loop-less c = search needs
+
+loop-again : tie.Need-loop-again Inv-loop μ-loop
+loop-again c =
+    let l = c .before .before .before in
+    let a = l .before .before .before .before .args in
+    ⊎-elim
+    (λ w. take moments-fold (a .valid-mask .now) (a .db .now) (l .loop .m) (l .loop .i) (l .loop .inv) (omega arith) (omega arith) (w .0 .taken) _ (sym (w .2 .ensures) ∙ w .3 .left) (w .5 ∙ w .4 .ensures))
+    (λ w. rw (w .1) (skip moments-fold (a .valid-mask .now) (a .db .now) (l .loop .m) (l .loop .i) (l .loop .inv) (omega arith) (omega arith) (w .0 .left)))
+    (c .if1 .came)
+
+returns-2 : tie.Need-returns-2 Inv-loop μ-loop
+unfolding firstPass
+returns-2 c =
+    let l = c .before in
+    let a = l .before .before .before .before .args in
+    sym (finish moments-fold (a .valid-mask .now) (a .db .now) (l .loop .m) (l .loop .i) (l .loop .inv) (omega arith))
+
+pub first-pass-spec : {M : Type 1} → statement M
+first-pass-spec =
+    tie.close
+    (tie.spec
+    Inv-loop
+    μ-loop
+    no-moments-requires
+    loop-holds
+    shared-slice-read-if1
+    mul-v
+    shared-slice-read-v
+    decibel-refused-requires
+    returns
+    with-value-requires
+    add-i
+    loop-less
+    loop-again
+    returns-2)

@@ -1,0 +1,19 @@
+-- What a pass over a band answers: that a valid dB is refused, or the moments of the valid dB. Definitions only.
+use mathlib.Core.Bool.{cond}
+use mathlib.Core.List.{List}
+use Rattle.types.specs.declared.Moments.{Moments}
+use Rattle.spec.specs.Pixels.{Pixel, validOf}
+use Rattle.spec.specs.Refusals.{badDecibel}
+use Rattle.spec.specs.Moments.{noMoments, momentsFrom}
+use Rattle.histogram.specs.declared.moments.FirstPass.{FirstPass}
+use Rattle.histogram.specs.declared.moments.FirstPass.the-variants.{Passed, BadDecibel}
+use Rattle.histogram.specs.Extremes.{extremesFrom}
+
+unfoldable pub passed : List Pixel → Moments → FirstPass
+passed px s = cond (badDecibel px) BadDecibel (Passed s)
+
+unfoldable pub firstPass : List Pixel → FirstPass
+firstPass px = passed px (momentsFrom noMoments (validOf px))
+
+unfoldable pub extremesPass : List Pixel → FirstPass
+extremesPass px = passed px (extremesFrom noMoments (validOf px))

@@ -1,0 +1,2 @@
+// The statistics of a band: moments, bins and percentiles, and the statistics call.
+pub mod moments;

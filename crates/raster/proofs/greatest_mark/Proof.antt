@@ -1,0 +1,48 @@
+-- `raster::greatest_mark` meets its contract. Assumes nothing.
+use mathlib.Core.Path.{_≡_, sym, _∙_}
+use mathlib.Core.Logic.{⊎-elim}
+use Prim.Native.Nat.{_-_, _≤_}
+use native.Mathlib.Omega.{arith}
+use borrow.Author.Needs.{needs}
+use lib.ListN.{length, drop}
+use Rattle.spec.specs.Lists.{highest}
+use Rattle.raster.proofs.Passes.{highest-end, highest-more, highest-same}
+use Rattle.raster.proofs.greatest_mark.Statement.{statement}
+use Rattle.raster.proofs.greatest_mark.Tie as tie
+
+abbrev Inv-loop : tie.InvT-loop
+Inv-loop valid-mask greatest₀ i₀ greatest i = (i ≤ length valid-mask) × (highest 0 valid-mask ≡ highest greatest (drop i valid-mask))
+
+abbrev μ-loop : tie.MeasureT-loop
+μ-loop valid-mask greatest₀ i₀ greatest i = length valid-mask - i
+
+loop-holds : tie.Need-loop-holds Inv-loop μ-loop
+loop-holds c = search needs
+
+shared-slice-read-mark : tie.Need-shared-slice-read-mark Inv-loop μ-loop
+shared-slice-read-mark c = search needs
+
+add-i : tie.Need-add-i Inv-loop μ-loop
+add-i c = search needs
+
+loop-less : tie.Need-loop-less Inv-loop μ-loop
+loop-less c = search needs
+
+loop-again : tie.Need-loop-again Inv-loop μ-loop
+loop-again c =
+    let l = c .before .before .before in
+    let ms = l .before .args .valid-mask .now in
+    ⊎-elim
+    (λ w. rw (w .1) (omega arith, l .loop .inv .1 ∙ highest-more ms (l .loop .greatest) (l .loop .i) (omega arith) (w .0 .taken)))
+    (λ w. rw (w .1) (omega arith, l .loop .inv .1 ∙ highest-same ms (l .loop .greatest) (l .loop .i) (omega arith) (w .0 .left)))
+    (c .if1 .came)
+
+returns : tie.Need-returns Inv-loop μ-loop
+returns c =
+    let l = c .before in
+    sym (l .loop .inv .1 ∙ highest-end (l .before .args .valid-mask .now) (l .loop .greatest) (l .loop .i) (omega arith) (omega arith))
+
+pub greatest-mark-spec : {M : Type 1} → statement M
+greatest-mark-spec =
+    tie.close
+    (tie.spec Inv-loop μ-loop loop-holds shared-slice-read-mark add-i loop-less loop-again returns)

@@ -1,0 +1,56 @@
+-- `stretch::ends_of` meets its contract. The invariant: the ends of what is left, from those so far, are the whole list's. Assumes nothing.
+use mathlib.Core.Path.{_≡_, refl, sym, ap, _∙_}
+use Prim.Native.Nat.{_-_, _≤_}
+use native.Mathlib.Omega.{arith}
+use borrow.Author.Needs.{needs}
+use denote.Ref.{now}
+use lib.ListN.{length, drop, drop-of-length-le}
+use Rattle.spec.specs.Lists.{lowest, highest}
+use Rattle.stretch.proofs.Loops.{lowest-more, highest-more}
+use Rattle.stretch.proofs.ends_of.Statement.{statement}
+use Rattle.stretch.proofs.ends_of.Tie as tie
+
+abbrev Inv-loop : tie.InvT-loop
+Inv-loop xs lo₀ hi₀ i₀ lo hi i = (i ≤ length xs) × (lowest lo (drop i xs) ≡ lowest 65535 xs) × (highest hi (drop i xs) ≡ highest 0 xs)
+
+abbrev μ-loop : tie.MeasureT-loop
+μ-loop xs lo₀ hi₀ i₀ lo hi i = length xs - i
+
+loop-holds : tie.Need-loop-holds Inv-loop μ-loop
+loop-holds c = (omega arith, refl, refl)
+
+mul-x : tie.Need-mul-x Inv-loop μ-loop
+mul-x c = omega arith
+
+shared-slice-read-x : tie.Need-shared-slice-read-x Inv-loop μ-loop
+shared-slice-read-x c = omega arith
+
+min-u16-requires : tie.Need-min-u16-requires Inv-loop μ-loop
+min-u16-requires c κs = search needs
+
+max-u16-requires : tie.Need-max-u16-requires Inv-loop μ-loop
+max-u16-requires c κs = search needs
+
+add-i : tie.Need-add-i Inv-loop μ-loop
+add-i c = omega arith
+
+loop-less : tie.Need-loop-less Inv-loop μ-loop
+loop-less c = omega arith
+
+loop-again : tie.Need-loop-again Inv-loop μ-loop
+loop-again c =
+    let l = c .before .before .before .before in
+    let xs = now (l .before .before .args .«data») in
+    (omega arith, rw (c .before .min-u16 .ensures) (lowest-more (l .loop .lo) (lowest 65535 xs) xs (l .loop .i) (omega arith) (l .loop .inv .1)),
+    rw (c .max-u16 .ensures) (highest-more (l .loop .hi) (highest 0 xs) xs (l .loop .i) (omega arith) (l .loop .inv .2)))
+
+returns : tie.Need-returns Inv-loop μ-loop
+unfolding lowest highest
+returns c =
+    let l = c .before in
+    let xs = now (l .before .before .args .«data») in
+    let none = drop-of-length-le xs (c .loop-test .left) in
+    (sym (ap (lowest (l .loop .lo)) none) ∙ l .loop .inv .1, sym (ap (highest (l .loop .hi)) none) ∙ l .loop .inv .2)
+
+pub ends-of-spec : {M : Type 1} → statement M
+ends-of-spec = tie.close (tie.spec Inv-loop μ-loop loop-holds mul-x shared-slice-read-x min-u16-requires max-u16-requires add-i loop-less loop-again returns)

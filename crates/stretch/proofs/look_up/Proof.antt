@@ -1,0 +1,61 @@
+-- `stretch::look_up` meets its contract. The invariant: the bytes before i are the entries of the values before i. Assumes nothing.
+use mathlib.Core.Path.{refl, _∙_}
+use Prim.Native.Nat.{_-_}
+use native.Mathlib.Omega.{arith}
+use denote.Ref.{now}
+use lib.ListN.{length, getD, length-set}
+use Rattle.lists.proofs.Rows.{Done, step, finish}
+use Rattle.stretch.proofs.look_up.Statement.{statement}
+use Rattle.stretch.proofs.look_up.Tie as tie
+
+abbrev Inv-loop : tie.InvT-loop
+Inv-loop xs table out₀ i₀ out i = Done (λ x. getD table x 0) 0 xs out i
+
+abbrev μ-loop : tie.MeasureT-loop
+μ-loop xs table out₀ i₀ out i = length xs - i
+
+loop-holds : tie.Need-loop-holds Inv-loop μ-loop
+loop-holds c = (omega arith, c .pre, refl)
+
+mul-x : tie.Need-mul-x Inv-loop μ-loop
+mul-x c = omega arith
+
+shared-slice-read-x : tie.Need-shared-slice-read-x Inv-loop μ-loop
+shared-slice-read-x c = omega arith
+
+cast-x : tie.Need-cast-x Inv-loop μ-loop
+cast-x c = omega (arith, c .shared-slice-known .given (c .before .before .loop .i))
+
+element-copy-out-out : tie.Need-element-copy-out-out Inv-loop μ-loop
+element-copy-out-out c = omega (arith, c .shared-slice-known .given (c .before .before .loop .i))
+
+slice-write-out : tie.Need-slice-write-out Inv-loop μ-loop
+slice-write-out c = omega arith
+
+add-i : tie.Need-add-i Inv-loop μ-loop
+add-i c = omega arith
+
+loop-less : tie.Need-loop-less Inv-loop μ-loop
+loop-less c = omega arith
+
+loop-again : tie.Need-loop-again Inv-loop μ-loop
+loop-again c =
+    let l = c .before .before .before in
+    let a = l .before .args in
+    let b = l .loop .out in
+    let x = getD (now (a .table)) (getD (now (a .«data»)) (l .loop .i) 0) 0 in (
+      omega (arith, length-set b (l .loop .i) x),
+      length-set b (l .loop .i) x ∙ l .loop .inv .1,
+      step (λ x. getD (now (a .table)) x 0) 0 (now (a .«data»)) b (l .loop .i) x (omega arith) (l .loop .inv .1) refl (l .loop .inv .2),
+    )
+
+same-length : tie.Need-same-length Inv-loop μ-loop
+same-length c = omega arith
+
+returns : tie.Need-returns Inv-loop μ-loop
+returns c =
+    let a = c .before .before .args in
+    finish (λ x. getD (now (a .table)) x 0) 0 (now (a .«data»)) (c .before .loop .out) (c .before .loop .i) (c .before .loop .inv) (c .loop-test .left)
+
+pub look-up-spec : {M : Type 1} → statement M
+look-up-spec = tie.close (tie.spec Inv-loop μ-loop loop-holds mul-x shared-slice-read-x cast-x element-copy-out-out slice-write-out add-i loop-less loop-again same-length returns)

@@ -1,0 +1,60 @@
+-- `stretch::look_up_bytes` meets its contract. The invariant: the bytes before i are replaced, the others as they were. Assumes nothing.
+use mathlib.Core.Path.{refl, _∙_}
+use Prim.Native.Nat.{_-_}
+use native.Mathlib.Omega.{arith}
+use denote.Ref.{now}
+use lib.ListN.{length, getD, length-set}
+use Rattle.stretch.proofs.InPlace.{Placed, placed-step, placed}
+use Rattle.stretch.proofs.look_up_bytes.Statement.{statement}
+use Rattle.stretch.proofs.look_up_bytes.Tie as tie
+
+abbrev Inv-loop : tie.InvT-loop
+Inv-loop bytes₀ table i₀ bytes i = Placed (λ x. getD table x 0) 0 bytes₀ bytes i
+
+abbrev μ-loop : tie.MeasureT-loop
+μ-loop bytes₀ table i₀ bytes i = length bytes₀ - i
+
+loop-holds : tie.Need-loop-holds Inv-loop μ-loop
+loop-holds c = (omega arith, refl, refl, refl)
+
+slice-read-x : tie.Need-slice-read-x Inv-loop μ-loop
+slice-read-x c = omega arith
+
+cast-x : tie.Need-cast-x Inv-loop μ-loop
+cast-x c = omega (arith, c .slice-known .given (c .before .before .loop .i))
+
+element-copy-out-bytes : tie.Need-element-copy-out-bytes Inv-loop μ-loop
+element-copy-out-bytes c = omega (arith, c .slice-known .given (c .before .before .loop .i))
+
+slice-write-bytes : tie.Need-slice-write-bytes Inv-loop μ-loop
+slice-write-bytes c = omega arith
+
+add-i : tie.Need-add-i Inv-loop μ-loop
+add-i c = omega arith
+
+loop-less : tie.Need-loop-less Inv-loop μ-loop
+loop-less c = omega arith
+
+loop-again : tie.Need-loop-again Inv-loop μ-loop
+loop-again c =
+    let l = c .before .before .before in
+    let a = l .before .args in
+    let b = l .loop .bytes in
+    let x = getD (now (a .table)) (getD b (l .loop .i) 0) 0 in
+    let s = placed-step (λ x. getD (now (a .table)) x 0) 0 (now (a .bytes)) b (l .loop .i) x (omega arith) (l .loop .inv .1) refl (l .loop .inv .2) (l .loop .inv .3) in (
+      omega (arith, length-set b (l .loop .i) x),
+      length-set b (l .loop .i) x ∙ l .loop .inv .1,
+      s .0,
+      s .1,
+    )
+
+same-length : tie.Need-same-length Inv-loop μ-loop
+same-length c = omega arith
+
+returns : tie.Need-returns Inv-loop μ-loop
+returns c =
+    let a = c .before .before .args in
+    placed (λ x. getD (now (a .table)) x 0) 0 (now (a .bytes)) (c .before .loop .bytes) (c .before .loop .i) (c .before .loop .inv) (c .loop-test .left)
+
+pub look-up-bytes-spec : {M : Type 1} → statement M
+look-up-bytes-spec = tie.close (tie.spec Inv-loop μ-loop loop-holds slice-read-x cast-x element-copy-out-bytes slice-write-bytes add-i loop-less loop-again same-length returns)

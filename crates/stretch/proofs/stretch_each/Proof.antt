@@ -1,0 +1,59 @@
+-- `stretch::stretch_each` meets its contract. The invariant: the bytes before i are those of the values before i. Assumes nothing.
+use mathlib.Core.Path.{refl, _∙_}
+use Prim.Native.Nat.{_-_}
+use native.Mathlib.Omega.{arith}
+use borrow.Author.Needs.{needs}
+use denote.Ref.{now}
+use lib.ListN.{length, length-set}
+use Rattle.spec.specs.Stretch.{stretchByte}
+use Rattle.lists.proofs.Rows.{Done, step, finish}
+use Rattle.stretch.proofs.stretch_each.Statement.{statement}
+use Rattle.stretch.proofs.stretch_each.Tie as tie
+
+abbrev Inv-loop : tie.InvT-loop
+Inv-loop xs lo hi out₀ i₀ out i = Done (stretchByte lo hi) 0 xs out i
+
+abbrev μ-loop : tie.MeasureT-loop
+μ-loop xs lo hi out₀ i₀ out i = length xs - i
+
+loop-holds : tie.Need-loop-holds Inv-loop μ-loop
+loop-holds c = (omega arith, c .before .before .pre, refl)
+
+mul-stretch-byte : tie.Need-mul-stretch-byte Inv-loop μ-loop
+mul-stretch-byte c = omega arith
+
+shared-slice-read-stretch-byte : tie.Need-shared-slice-read-stretch-byte Inv-loop μ-loop
+shared-slice-read-stretch-byte c = omega arith
+
+stretch-byte-requires : tie.Need-stretch-byte-requires Inv-loop μ-loop
+stretch-byte-requires c κs = search needs
+
+slice-write-out : tie.Need-slice-write-out Inv-loop μ-loop
+slice-write-out c = omega arith
+
+add-i : tie.Need-add-i Inv-loop μ-loop
+add-i c = omega arith
+
+loop-less : tie.Need-loop-less Inv-loop μ-loop
+loop-less c = omega arith
+
+loop-again : tie.Need-loop-again Inv-loop μ-loop
+loop-again c =
+    let l = c .before .before .before in
+    let a = l .before .before .before .args in
+    let b = l .loop .out in (
+      omega (arith, length-set b (l .loop .i) (c .stretch-byte .result)),
+      length-set b (l .loop .i) (c .stretch-byte .result) ∙ l .loop .inv .1,
+      step (stretchByte (a .lo) (a .hi)) 0 (now (a .«data»)) b (l .loop .i) (c .stretch-byte .result) (omega arith) (l .loop .inv .1) (c .stretch-byte .ensures) (l .loop .inv .2),
+    )
+
+same-length : tie.Need-same-length Inv-loop μ-loop
+same-length c = omega arith
+
+returns : tie.Need-returns Inv-loop μ-loop
+returns c =
+    let a = c .before .before .before .before .args in
+    finish (stretchByte (a .lo) (a .hi)) 0 (now (a .«data»)) (c .before .loop .out) (c .before .loop .i) (c .before .loop .inv) (c .loop-test .left)
+
+pub stretch-each-spec : {M : Type 1} → statement M
+stretch-each-spec = tie.close (tie.spec Inv-loop μ-loop loop-holds mul-stretch-byte shared-slice-read-stretch-byte stretch-byte-requires slice-write-out add-i loop-less loop-again same-length returns)
