@@ -5,3 +5,8 @@ pub mod Totals
 pub mod Cells
 pub mod InPlace
 pub mod Shares
+pub mod Scaled
+pub mod Bounds
+pub mod Rows
+pub mod Tiling
+pub mod Parts

@@ -2,18 +2,18 @@
 use mathlib.Core.Path.{_≡_, refl, sym, ap, _∙_}
 use mathlib.Core.Bool.{Bool, true, false, not, _&&_, _||_, true≢false}
 use mathlib.Core.List.{List, [], _∷_}
-use Prim.Native.Nat.{ℕ, zero, suc, _*_}
+use Prim.Native.Nat.{ℕ, zero, suc}
 use native.Mathlib.Omega.{arith}
-use borrow.Author.Tests.{eqb-true}
-use lib.Dec.{T, eqb}
+use lib.Dec.{T}
 use lib.ListN.{length, getD}
 use lib.Ieee.{Float, binary64, le, neg, ofBits}
 use lib.Ieee.Scale.{finite}
 use Rattle.spec.specs.Answer.{Answer, refused, done, firstOf, orRefused, answer}
 use Rattle.spec.specs.Lists.{any}
 use Rattle.spec.specs.Pixels.{Pixel, off, on}
-use Rattle.spec.specs.Refusals.{unlike, notNamed, badPixel}
+use Rattle.spec.specs.Refusals.{notNamed, badPixel}
 use Rattle.numeric.proofs.Facts.{bounded-finite}
+use Rattle.raster.proofs.Bands.{or-false, lengths-accepted}
 
 is-done : {A : Type 0} → Answer A → Bool
 is-done (refused k) = false
@@ -56,24 +56,9 @@ all-clear k (false ∷ ts) h = all-clear (suc k) ts (h .1)
 pub both-false : {a b : Bool} → a ≡ false → b ≡ false → (a || b) ≡ false
 both-false e f = rw (e, f) refl
 
-pub or-false : (a b : Bool) → (a || b) ≡ false → (a ≡ false) × (b ≡ false)
-or-false true b e = absurd (true≢false e)
-or-false false b e = (refl, e)
-
-named-length : (n k : ℕ) → unlike n k ≡ false → n ≡ k
-unfolding unlike
-named-length n k e = go (eqb n k) refl e
-  where
-    go : (t : Bool) → eqb n k ≡ t → not t ≡ false → n ≡ k
-    go true q h = eqb-true n k q
-    go false q h = absurd (true≢false h)
-
 -- marks and dB of the named lengths
 pub named-lengths : (rows cols : ℕ) (m : List ℕ) (d : List Float) → notNamed rows cols m d ≡ false → length m ≡ length d
-unfolding notNamed
-named-lengths rows cols m d e =
-    let h = or-false (unlike (length d) (rows * cols)) (unlike (length m) (rows * cols)) e in
-    named-length (length m) (rows * cols) (h .1) ∙ sym (named-length (length d) (rows * cols) (h .0))
+named-lengths rows cols m d e = let h = lengths-accepted rows cols m d e in h .1 ∙ sym (h .0)
 
 -- a valid dB is finite
 pub good-at : (px : List Pixel) (i : ℕ) → any badPixel px ≡ false → badPixel (getD px i off) ≡ false

@@ -1,21 +1,20 @@
 -- The valid count is the number of valid pixels, and of 1 marks. Assumes nothing.
-use mathlib.Core.Path.{_≡_, refl, sym, ap, _∙_}
+use mathlib.Core.Path.{_≡_, refl, sym, _∙_}
 use mathlib.Core.Bool.{Bool, true, false, cond}
-use mathlib.Core.List.{List, [], _∷_, zipWith}
-use Prim.Native.Nat.{ℕ, zero, suc, _+_}
-use native.Mathlib.Nat.{suc-inj, add-zero}
+use mathlib.Core.List.{List, [], _∷_}
+use Prim.Native.Nat.{ℕ, _+_}
+use native.Mathlib.Nat.{add-zero}
 use native.Mathlib.Omega.{arith}
-use borrow.Author.Tests.{ltb-false}
 use lib.ListN.{length}
 use lib.Ieee.{Float, binary64, sub, lt}
 use Rattle.types.specs.declared.Moments.{Moments}
 use Rattle.types.specs.declared.Percentile.{Percentile}
-use Rattle.spec.specs.Lists.{countOf, any}
-use Rattle.spec.specs.Pixels.{Pixel, pixel, pixels, validOf}
+use Rattle.spec.specs.Lists.{countOf}
+use Rattle.spec.specs.Pixels.{Pixel, pixels, validOf}
 use Rattle.spec.specs.Refusals.{badMark}
 use Rattle.spec.specs.Moments.{noMoments, withValue, momentsFrom}
 use Rattle.spec.specs.Statistics.{gathered, summary, summaryOf, statisticsOf, flatPercentile, spreadPercentile, flat64}
-use Rattle.demands.proofs.Accepted.{or-false}
+use Rattle.raster.proofs.Bands.{valid-ones}
 
 pub moments-count : (s : Moments) (vs : List Float) → momentsFrom s vs .count ≡ s .count + length vs
 unfolding momentsFrom withValue
@@ -33,14 +32,6 @@ summary-count s vs = pick (lt (sub binary64 (s .«max_db») (s .«min_db»)) fla
 pub count-valid : (px : List Pixel) → statisticsOf px .«valid_count» ≡ length (validOf px)
 unfolding statisticsOf summaryOf noMoments
 count-valid px = summary-count (momentsFrom noMoments (validOf px)) (validOf px) ∙ moments-count noMoments (validOf px) ∙ omega arith
-
-valid-ones : (m : List ℕ) (d : List Float) → length m ≡ length d → badMark m ≡ false → length (validOf (pixels m d)) ≡ countOf 1 m
-unfolding pixels pixel zipWith validOf badMark any countOf
-valid-ones [] d e b = refl
-valid-ones (k ∷ m) [] e b = absurd (omega (arith, e))
-valid-ones (zero ∷ m) (v ∷ d) e b = valid-ones m d (suc-inj e) b ∙ omega arith
-valid-ones (suc zero ∷ m) (v ∷ d) e b = ap suc (valid-ones m d (suc-inj e) b) ∙ omega arith
-valid-ones (suc (suc k) ∷ m) (v ∷ d) e b = absurd (omega (arith, ltb-false 1 (suc (suc k)) (or-false _ _ b .0)))
 
 pub count-marks : (m : List ℕ) (d : List Float) → length m ≡ length d → badMark m ≡ false → statisticsOf (pixels m d) .«valid_count» ≡ countOf 1 m
 count-marks m d e b = count-valid (pixels m d) ∙ valid-ones m d e b

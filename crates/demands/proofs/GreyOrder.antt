@@ -27,11 +27,12 @@ use Rattle.spec.specs.Grey.{values, greyTests, grey8, grey16}
 use Rattle.spec.specs.Picture.{Picture, Lent, pictureGreys, composed, pictureTests, pictureOf}
 use Rattle.numeric.proofs.Order.{Number}
 use Rattle.numeric.proofs.Picks.{clamped-hi, toUnsigned-le}
+use Rattle.raster.proofs.Bands.{or-false, pixels-length}
+use Rattle.stretch.proofs.Rising.{stretch-rises}
 use Rattle.demands.specs.GreyOrder.{Ranked, GreyOrder}
-use Rattle.demands.proofs.Accepted.{done-answer, none-holds, or-false, named-lengths, good-at, good-finite}
-use Rattle.demands.proofs.Painted.{pixels-size, not-clahe, painter, values-map, values-size}
+use Rattle.demands.proofs.Accepted.{done-answer, none-holds, named-lengths, good-at, good-finite}
+use Rattle.demands.proofs.Painted.{not-clahe, painter, values-map, values-size}
 use Rattle.demands.proofs.ValueOrder.{Finite, value8-order, value16-order}
-use Rattle.demands.proofs.StretchOrder.{stretch-le}
 
 -- ---- a place with mark 1 is a valid pixel of finite dB
 
@@ -109,13 +110,13 @@ module _ (strategy : AutoscaleStrategy) (n : isClahe strategy ≡ false) (rows c
 
   size : (full : Float) → length (raw full) ≡ length m
   unfolding raw
-  size full = values-size full strategy n rows cols (pixels m d) (given blank c) ∙ pixels-size m d e
+  size full = values-size full strategy n rows cols (pixels m d) (given blank c) ∙ pixels-length m d e ∙ sym e
 
   value-at : (full : Float) (i : ℕ) → getD m i 0 ≡ 1 → getD (raw full) i 0 ≡ painter full (given blank c) (on (getD d i nan))
   unfolding raw
   value-at full i h =
       ap (λ (xs : List ℕ). getD xs i 0) (values-map full strategy n rows cols (pixels m d) (given blank c))
-      ∙ map-in (painter full (given blank c)) off 0 (pixels m d) i (omega (arith, mark-below m i h, pixels-size m d e))
+      ∙ map-in (painter full (given blank c)) off 0 (pixels m d) i (omega (arith, mark-below m i h, pixels-length m d e, e))
       ∙ ap (painter full (given blank c)) (pixel-at m d i e h)
 
   finite-at : (i : ℕ) → getD m i 0 ≡ 1 → Finite (getD d i nan)
@@ -133,7 +134,7 @@ module _ (strategy : AutoscaleStrategy) (n : isClahe strategy ≡ false) (rows c
       let xs = raw full8 in
       let f = stretchByte (lowest 65535 xs) (highest 0 xs) in
       subst₂ _≤_ (sym (map-in f 0 0 xs i (omega (arith, mark-below m i hi, size full8)))) (sym (map-in f 0 0 xs j (omega (arith, mark-below m j hj, size full8))))
-      (stretch-le (lowest 65535 xs) (highest 0 xs) (getD xs i 0) (getD xs j 0) top (raw-ranked full8 order8 i j hi hj h))
+      (stretch-rises (lowest 65535 xs) (highest 0 xs) (getD xs i 0) (getD xs j 0) top (raw-ranked full8 order8 i j hi hj h))
     where
       top : highest 0 (raw full8) ≤ 65535
       top =

@@ -3,7 +3,6 @@ pub mod Counted
 pub mod Painted
 pub mod Alteration
 pub mod ValueOrder
-pub mod StretchOrder
 pub mod GreyOrder
 pub mod FirstMet
 pub mod Steadiness

@@ -3,7 +3,7 @@ use mathlib.Core.Path.{_≡_, refl, sym, ap, ap₂, _∙_}
 use mathlib.Core.Bool.{Bool, true, false, cond, _&&_, _||_}
 use mathlib.Core.List.{List, [], _∷_, map, zipWith, List·Permᴰ, List·Permᴰ·nil, List·Permᴰ·cons, List·Permᴰ·swap, List·Permᴰ·trans}
 use Prim.Native.Nat.{ℕ, zero, suc, _+_, _*_, _≤_, _<_}
-use native.Mathlib.Nat.{not-suc-le-zero, le-of-suc-le-suc}
+use native.Mathlib.Nat.{suc-inj, not-suc-le-zero, le-of-suc-le-suc}
 use native.Mathlib.Omega.{arith}
 use lib.Dec.{ltb}
 use lib.ListN.{length, getD, length-map}
@@ -27,8 +27,8 @@ use Rattle.spec.specs.Picture.{Picture, Lent, pictureGreys, composed, pictureTe
 use Rattle.spec.specs.Places.{Order, moved, dark, movedPicture}
 use Rattle.lists.proofs.Counts.{Below}
 use Rattle.lists.proofs.Reorder.{perm-length, any-perm, lowest-perm, highest-perm, floor-perm, moved-perm, zip-moved, map-moved, map-same}
-use Rattle.demands.proofs.Accepted.{or-false}
-use Rattle.demands.proofs.Painted.{zip-size, pixels-size as pixels-length, painter, painter-off, values-map, values-size}
+use Rattle.raster.proofs.Bands.{or-false, pixels-length}
+use Rattle.demands.proofs.Painted.{painter, painter-off, values-map, values-size}
 use Rattle.demands.proofs.Steadiness.{Steady}
 
 -- ---- an order names places of the list only
@@ -65,6 +65,12 @@ moved-default {A} c d (i ∷ ps) xs b =
 -- so the default does not matter
 any-default : {A : Type 0} (c d : A) (ps : List ℕ) (n : ℕ) (xs : List A) → length xs ≡ n → Order ps n → moved c ps xs ≡ moved d ps xs
 any-default c d ps n xs e o = moved-default c d ps xs (below-perm (length xs) o (below-places 0 n (length xs) (omega arith)))
+
+zip-size : {A B C : Type 0} (f : A → B → C) (xs : List A) (ys : List B) → length xs ≡ length ys → length (zipWith f xs ys) ≡ length xs
+unfolding zipWith
+zip-size f [] ys e = refl
+zip-size f (x ∷ xs) [] e = absurd (omega (arith, e))
+zip-size f (x ∷ xs) (y ∷ ys) e = ap suc (zip-size f xs ys (suc-inj e))
 
 -- ---- a band
 
@@ -157,7 +163,7 @@ module _ (ps : List ℕ) (n : ℕ) (o : Order ps n) where
       ap (λ (t : Bool). isClahe strategy && t && (badSide rows || badSide cols)) (any-perm isOn (moved-perm off ps px (order-of px e)))
 
   pub pixels-size : (m : List ℕ) (d : List Float) → length m ≡ n → length d ≡ n → length (pixels m d) ≡ n
-  pixels-size m d e f = pixels-length m d (e ∙ sym f) ∙ e
+  pixels-size m d e f = pixels-length m d (e ∙ sym f) ∙ f
 
 -- ---- the picture
 

@@ -1,30 +1,18 @@
--- A band has as many pixels as marks, and outside Clahe it is painted pixel by pixel. Assumes nothing.
+-- Outside Clahe a band is painted pixel by pixel. Assumes nothing.
 use mathlib.Core.Path.{_≡_, refl, ap, _∙_}
 use mathlib.Core.Bool.{false}
-use mathlib.Core.List.{List, [], _∷_, map, zipWith}
-use Prim.Native.Nat.{ℕ, suc}
-use native.Mathlib.Nat.{suc-inj}
-use native.Mathlib.Omega.{arith}
+use mathlib.Core.List.{List, map}
+use Prim.Native.Nat.{ℕ}
 use lib.ListN.{length, length-map}
 use lib.Ieee.{Float}
 use Rattle.types.specs.declared.AutoscaleStrategy.{AutoscaleStrategy}
 use Rattle.types.specs.declared.AutoscaleStrategy.the-variants.{Standard, Robust, Adaptive, Equalized, Clahe, Tamed, Default}
 use Rattle.types.specs.declared.WindowAnswer.{WindowAnswer}
 use Rattle.types.specs.declared.WindowAnswer.the-variants.{Window, Blank, Refused}
-use Rattle.spec.specs.Pixels.{Pixel, off, pixel, pixels}
+use Rattle.spec.specs.Pixels.{Pixel, off}
 use Rattle.spec.specs.Strategies.{isClahe}
 use Rattle.spec.specs.Value.{paint}
 use Rattle.spec.specs.Grey.{black, values}
-
-pub zip-size : {A B C : Type 0} (f : A → B → C) (xs : List A) (ys : List B) → length xs ≡ length ys → length (zipWith f xs ys) ≡ length xs
-unfolding zipWith
-zip-size f [] ys e = refl
-zip-size f (x ∷ xs) [] e = absurd (omega (arith, e))
-zip-size f (x ∷ xs) (y ∷ ys) e = ap suc (zip-size f xs ys (suc-inj e))
-
-pub pixels-size : (m : List ℕ) (d : List Float) → length m ≡ length d → length (pixels m d) ≡ length m
-unfolding pixels
-pixels-size m d e = zip-size pixel m d e
 
 pub not-clahe : (strategy : AutoscaleStrategy) → (strategy ≡ Clahe → ⊥) → isClahe strategy ≡ false
 unfolding isClahe

@@ -23,8 +23,9 @@ use Rattle.spec.specs.Picture.{Picture, Lent, pictureOf}
 use Rattle.spec.specs.Places.{Order, moved, dark, movedPicture}
 use Rattle.lists.proofs.Reorder.{perm-length, valid-perm, moved-perm}
 use Rattle.numeric.proofs.Order.{Number, number-of-finite}
+use Rattle.raster.proofs.Bands.{or-false}
 use Rattle.demands.specs.Reordering.{Reorders, AreF64, movedTriples, MovedBy, same-refusal, both-done, Reordering}
-use Rattle.demands.proofs.Accepted.{or-false, good-finite}
+use Rattle.demands.proofs.Accepted.{good-finite}
 use Rattle.demands.proofs.Painted.{not-clahe}
 use Rattle.demands.proofs.Counted.{moments-count}
 use Rattle.demands.proofs.FirstMet.{Each, Fits, moments-least, moments-greatest, least-alike, greatest-alike}
@@ -115,11 +116,15 @@ byte-at k l (c ∷ cs) (suc i) j e = ap (λ (n : ℕ). getD (bytesOf (c ∷ cs))
     next : (j i : ℕ) → j ≡ 3 * suc i + k → j ≡ suc (suc (suc (3 * i + k)))
     next j i e = omega arith
 
+triple : {a a′ b b′ c c′ : ℕ} {xs ys : List ℕ} → a ≡ a′ → b ≡ b′ → c ≡ c′ → xs ≡ ys → (a ∷ b ∷ c ∷ xs) ≡ (a′ ∷ b′ ∷ c′ ∷ ys)
+triple e f g h = λ i. e i ∷ f i ∷ g i ∷ h i
+
 bytes-moved : (ps : List ℕ) (cs : List Rgb) → bytesOf (moved dark ps cs) ≡ movedTriples ps (bytesOf cs)
 unfolding bytesOf movedTriples part
 bytes-moved [] cs = refl
 bytes-moved (i ∷ ps) cs =
-    rw (byte-at 0 (lit< tt) cs i (3 * i) (sym (add-zero (3 * i))), byte-at 1 (lit< tt) cs i (3 * i + 1) refl, byte-at 2 (lit< tt) cs i (3 * i + 2) refl, ← bytes-moved ps cs) refl
+    triple (sym (byte-at 0 (lit< tt) cs i (3 * i) (sym (add-zero (3 * i))))) (sym (byte-at 1 (lit< tt) cs i (3 * i + 1) refl))
+    (sym (byte-at 2 (lit< tt) cs i (3 * i + 2) refl)) (bytes-moved ps cs)
 
 in-bytes : (ps : List ℕ) (a b : Answer Picture) → b ≡ movedPicture ps a → MovedBy ps a b
 unfolding movedPicture

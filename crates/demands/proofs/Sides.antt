@@ -30,8 +30,9 @@ use Rattle.spec.specs.Grey.{values, greyTests, grey8}
 use Rattle.spec.specs.Colour.{composition}
 use Rattle.spec.specs.Picture.{Picture, Lent, pictureGreys, composed, pictureTests, pictureOf}
 use Rattle.lists.proofs.Counts.{Below, counts-sum}
+use Rattle.raster.proofs.Bands.{or-false}
 use Rattle.demands.specs.Sides.{withMean, Sides}
-use Rattle.demands.proofs.Accepted.{done-or-refused, done-same, done-answer, none-holds, all-clear, both-false, or-false, named-lengths}
+use Rattle.demands.proofs.Accepted.{done-or-refused, done-same, done-answer, none-holds, all-clear, both-false, named-lengths}
 use Rattle.demands.proofs.Counted.{count-marks}
 
 -- ---- the count

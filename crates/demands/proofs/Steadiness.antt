@@ -112,7 +112,8 @@ module _ (s s′ : Moments) (h : SameMoments s s′) where
   spread-alike : (span : Float) {vs vs′ : List Float} → List·Permᴰ vs vs′ → (p : Float) → Alike (spreadPercentile s span vs p .value) (spreadPercentile s′ span vs′ p .value)
   unfolding spreadPercentile percentile valueAt histogram
   spread-alike span {vs} {vs′} o p =
-      let hist = counts-perm 4096 (perm-map (binOf (s .«min_db») (div binary64 one64 span)) o) ∙ ap (counts 4096) (map-same (binOf (s .«min_db») (div binary64 one64 span)) (binOf (s′ .«min_db») (div binary64 one64 span)) (bin-alike (div binary64 one64 span) (h .least)) vs′) in
+      let bin = binOf (s .«min_db») (div binary64 one64 span) in
+      let hist = counts-perm 4096 (perm-map bin o) ∙ ap (counts 4096) (map-same bin (binOf (s′ .«min_db») (div binary64 one64 span)) (bin-alike (div binary64 one64 span) (h .least)) vs′) in
       rw (hist, h .count) (add-alike (add-alike (h .least) same) same)
 
   -- of two reordered lists of values

@@ -13,6 +13,10 @@ use Rattle.spec.specs.Answer.{done}
 use Rattle.spec.specs.Grey.{grey8, grey16}
 use Rattle.spec.specs.Picture.{Picture, Lent, pictureOf}
 
+-- "outside Clahe"
+abbrev pub OutsideClahe : AutoscaleStrategy → Type 0
+OutsideClahe strategy = strategy ≡ Clahe → ⊥
+
 -- of any two places with mark 1, the one with the larger dB has no smaller grey; equal dB, equal grey. A place beyond the list has mark 0 here.
 abbrev pub Ranked : List ℕ → List Float → List ℕ → Type 0
 Ranked marks db greys =
@@ -21,12 +25,12 @@ Ranked marks db greys =
 -- "That holds for every call that turns decibels into greys and is done, at 8 or 16 bits."
 pub record GreyOrder : Type 0 where
   pub at-8-bits :
-    (strategy : AutoscaleStrategy) → (strategy ≡ Clahe → ⊥) → (rows cols : ℕ) (marks : List ℕ) (db : List Float) (out work : ℕ) (greys : List ℕ) →
+    (strategy : AutoscaleStrategy) → OutsideClahe strategy → (rows cols : ℕ) (marks : List ℕ) (db : List Float) (out work : ℕ) (greys : List ℕ) →
     grey8 strategy rows cols marks db out work ≡ done greys → Ranked marks db greys
   pub at-16-bits :
-    (strategy : AutoscaleStrategy) → (strategy ≡ Clahe → ⊥) → (rows cols : ℕ) (marks : List ℕ) (db : List Float) (out work : ℕ) (greys : List ℕ) →
+    (strategy : AutoscaleStrategy) → OutsideClahe strategy → (rows cols : ℕ) (marks : List ℕ) (db : List Float) (out work : ℕ) (greys : List ℕ) →
     grey16 strategy rows cols marks db out work ≡ done greys → Ranked marks db greys
   pub picture :
-    (strategy : AutoscaleStrategy) → (strategy ≡ Clahe → ⊥) → (mode : SyntheticRgbMode) (rows cols : ℕ) (marks1 : List ℕ) (db1 : List Float) (marks2 : List ℕ) (db2 : List Float)
+    (strategy : AutoscaleStrategy) → OutsideClahe strategy → (mode : SyntheticRgbMode) (rows cols : ℕ) (marks1 : List ℕ) (db1 : List Float) (marks2 : List ℕ) (db2 : List Float)
     (lent : Lent) (p : Picture) →
     pictureOf strategy mode rows cols marks1 db1 marks2 db2 lent ≡ done p → Ranked marks1 db1 (p .grey1) × Ranked marks2 db2 (p .grey2)

@@ -1,1 +1,3 @@
 pub mod Passes
+pub mod Filling
+pub mod Seeking

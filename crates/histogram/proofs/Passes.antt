@@ -1,6 +1,6 @@
 -- A pass over a band that refuses a bad valid dB and folds the others: what holds at place i, and one turn of the loop. Assumes nothing.
 use mathlib.Core.Path.{_≡_, refl, sym, ap, _∙_}
-use mathlib.Core.Bool.{Bool, true, false, cond}
+use mathlib.Core.Bool.{true, false}
 use mathlib.Core.List.{List, [], _∷_}
 use Prim.Native.Nat.{ℕ, _+_, _≤_, _<_}
 use native.Mathlib.Omega.{arith}
@@ -14,7 +14,6 @@ use Rattle.spec.specs.Pixels.{Pixel, off, on, pixels, validOf}
 use Rattle.spec.specs.Refusals.{badPixel, badDecibel}
 use Rattle.raster.proofs.Bands.{next-off, next-on, drop-end}
 use Rattle.raster.proofs.Passes.{any-here, any-not-here, any-none}
-use Rattle.histogram.specs.declared.moments.FirstPass.{FirstPass}
 use Rattle.histogram.specs.declared.moments.FirstPass.the-variants.{Passed, BadDecibel}
 use Rattle.histogram.specs.Extremes.{withExtreme, extremesFrom}
 use Rattle.histogram.specs.Passes.{passed}

@@ -1,8 +1,8 @@
 -- Two floats of a format, each at most the other, are the same number. Assumes nothing.
 use mathlib.Core.Path.{_≡_, sym, ap, _∙_, subst, subst₂}
-use mathlib.Core.Bool.{Bool, true, false, cond}
+use mathlib.Core.Bool.{Bool, true, false, cond, true≢false}
 use Prim.Native.Nat.{ℕ, zero, suc, _+_, _*_, _-_, _^_, _/_, _<_, _≤_}
-use native.Mathlib.Nat.{mul-right-comm}
+use native.Mathlib.Nat.{le-antisymm, le-of-eq, mul-right-comm}
 use native.Mathlib.Omega.{arith}
 use lib.Dec.{T}
 use lib.IntN.{ℤ, pos}
@@ -10,6 +10,8 @@ use lib.Ieee.{Float, nan, inf, fin, Format, binary64, up, down, le, fits, toBits
 use lib.Ieee.Bits.{ofBits-toBits}
 use lib.Ieee.Fits.{down-pos, up-pos}
 use lib.Ieee.Nearest.{div-same}
+use lib.Ieee.Exact.{HasValue}
+use lib.Ieee.Order.{transfer}
 use lib.Ieee.Scale.{finite}
 use Rattle.spec.specs.Number.{Alike, same, zeros}
 use Rattle.numeric.proofs.Order.{none, le→cross, only-top, only-bottom}
@@ -64,3 +66,15 @@ le-antisym f (fin false m e) (fin true n d) p q h k =
 
 pub antisymmetric : (x y : Float) → T (finite x) → T (finite y) → T (fits binary64 x) → T (fits binary64 y) → T (le x y) → T (le y x) → Alike x y
 antisymmetric x y a b p q h k = le-antisym binary64 x y p q h k
+
+-- two values of a format that are the same fraction, not below zero
+pub value-unique : (f : Format) (x y : Float) (a c b d : ℕ) → 0 < c → 0 < d → T (fits f x) → T (fits f y) → HasValue x false a c → HasValue y false b d → a * d ≡ b * c → x ≡ y
+value-unique f nan y a c b d C D p q h k e = absurd h
+value-unique f (inf s) y a c b d C D p q h k e = absurd h
+value-unique f (fin s m i) nan a c b d C D p q h k e = absurd k
+value-unique f (fin s m i) (inf t) a c b d C D p q h k e = absurd k
+value-unique f (fin true m i) (fin t n j) a c b d C D p q h k e = absurd (true≢false (h .0))
+value-unique f (fin false m i) (fin true n j) a c b d C D p q h k e = absurd (true≢false (k .0))
+value-unique f (fin false m i) (fin false n j) a c b d C D p q h k e =
+    fin-unique f false m i n j p q
+    (le-antisymm (transfer (m * up i) (n * up j) (down i) (down j) a b c d C D (h .1) (k .1) (le-of-eq e)) (transfer (n * up j) (m * up i) (down j) (down i) b a d c D C (k .1) (h .1) (le-of-eq (sym e))))

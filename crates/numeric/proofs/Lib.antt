@@ -6,6 +6,10 @@ pub mod Exact
 pub mod Casts
 pub mod Facts
 pub mod Values
+pub mod Away
 pub mod Small
+pub mod Root
+pub mod Rooted
+pub mod Correct
 pub mod Alike
 pub mod Ends

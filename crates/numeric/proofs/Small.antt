@@ -1,7 +1,7 @@
 -- x + 2^52 - 2^52 is the whole number nearest to x, for an x from 0 to 65535. Assumes nothing.
 use mathlib.Core.Path.{_≡_, refl, sym, ap, _∙_, subst}
 use Prim.Native.Nat.{ℕ, zero, suc, _+_, _-_, _*_, _/_, _%_, _^_, _≤_, _<_, compare, Ordering, Ordering·lt, Ordering·eq, Ordering·gt}
-use native.Mathlib.Nat.{le-of-eq, le-trans, lt-of-lt-of-le, lt-of-not-le, not-le-of-lt, suc-mul, mod-lt, mul-one, mul-assoc, mul-comm, mul-left-comm, mul-right-comm, add-mul, mul-pos, mul-le-mul-right, mul-lt-mul-of-pos-right, le-of-mul-le-mul-right, eq-of-mul-eq-mul-right, div-add-mod', le-div-iff-mul-le, div-lt-iff-lt-mul, div-eq-of-lt-le}
+use native.Mathlib.Nat.{le-of-eq, le-trans, lt-of-lt-of-le, lt-of-not-le, not-le-of-lt, suc-mul, mod-lt, mul-one, mul-assoc, mul-comm, mul-right-comm, add-mul, mul-pos, mul-le-mul-right, mul-lt-mul-of-pos-right, le-of-mul-le-mul-right, eq-of-mul-eq-mul-right, div-add-mod', le-div-iff-mul-le, div-lt-iff-lt-mul, div-eq-of-lt-le}
 use native.Mathlib.Omega.{arith}
 use mathlib.Core.Bool.{Bool, true, false, not, cond}
 use lib.Arith.{lt-of-le-ne}
@@ -15,7 +15,7 @@ use lib.Pow.{pow-add, pow-pos, pow-mono, shl-lt}
 use lib.Ieee.{Float, nan, inf, fin, binary64, low, up, down, size, nearest, units, round, add, sub, lt, le, ofInt, ofBits, toUnsigned, toSigned, inSigned, inFloat}
 use lib.Ieee.Back.{whole-unique, positive-back}
 use lib.Ieee.Digits.{size-lt, size-le}
-use lib.Ieee.Exact.{HasValue, units-val, round-exact}
+use lib.Ieee.Exact.{HasValue, units-val}
 use lib.Ieee.Fits.{round-is, round-fits}
 use lib.Ieee.Nearest.{closest, closest-same, nearest-ge}
 use lib.Ieee.Positive.{den, den-pos}
@@ -26,7 +26,8 @@ use Rattle.numeric.proofs.Order.{plus, less, le→cross, finite-between
 use Rattle.numeric.proofs.Picks.{clamped-lo, clamped-hi, toUnsigned-le}
 use Rattle.numeric.proofs.Ops.{add-rounds}
 use Rattle.numeric.proofs.Round.{Rounds}
-use Rattle.numeric.proofs.Values.{count-value, count-sub, add-values, value-finite, value-below, value-above, nothing-less, whole-of, rounded-of}
+use Rattle.numeric.proofs.Away.{half-more, turned, up-from, down-from}
+use Rattle.numeric.proofs.Values.{count-value, count-sub, value-finite, value-below, value-above, nothing-less, whole-of}
 
 -- ---- the nearest whole number is at most a half away
 abbrev Cmp : Ordering → ℕ → ℕ → Type 0
@@ -174,28 +175,11 @@ cut : (x : Float) (n : ℕ) → n ≤ 65535 → T (finite x) → n * den x ≤ p
 cut x n s p h k = let d : plus x / den x ≡ n = div-eq-of-lt-le (den x) h k in omega (arith, whole-of 64 x p)
 
 -- ---- half away from zero: one more where x reaches r + 1/2
-half-more : (n : ℕ) → n ≤ 65535 → HasValue (add binary64 (ofCount n) half64) false (n * 2 + 1) 2
-unfolding ofBits
-half-more n h =
-    let e = add-values binary64 (ofCount n) half64 n 1 1 2 (lit< tt) (lit< tt) (count-value n (omega arith)) (refl, refl) in
-    let k = n * 2 + 1 in
-    subst (λ (z : Float). HasValue z false k 2) (sym e)
-    (round-exact binary64 false k 2 k 1073 (lit< tt) (omega arith) (lt-of-lt-of-le (shl-lt 53 1073 (omega arith)) (pow-mono {i = 1126} {j = 2098} (lit≤ tt))) (sym (mul-assoc k (2 ^ 1073) 2)))
-
-turned : (x : Float) (n : ℕ) → n ≤ 65536 → T (finite x) → n * (den x * 2) ≤ plus x * 2 + den x → plus x * 2 + den x < (n + 1) * (den x * 2) → n ≡ rounded x
-turned x n s p h k = let d : (plus x * 2 + den x) / (den x * 2) ≡ n = div-eq-of-lt-le (den x * 2) h k in omega (arith, rounded-of x p)
-
-up-from : (n N D : ℕ) → (n * 2 + 1) * D ≤ N * 2 → (n + 1) * (D * 2) ≤ N * 2 + D
-up-from n N D h = let g = simp (add-mul, mul-assoc) at h in simp (add-mul, mul-left-comm) (omega arith)
-
 under-from : (n N D : ℕ) → 0 < D → N * 2 ≤ n * D * 2 + D → N * 2 + D < (n + 1 + 1) * (D * 2)
 under-from n N D P h = simp (add-mul, mul-assoc) (omega (arith, simp mul-assoc at h))
 
 above-from : (n N D : ℕ) → n * D * 2 ≤ N * 2 + D → n * (D * 2) ≤ N * 2 + D
 above-from n N D h = omega (arith, mul-assoc n D 2)
-
-down-from : (n N D : ℕ) → N * 2 < (n * 2 + 1) * D → N * 2 + D < (n + 1) * (D * 2)
-down-from n N D h = let g = simp (add-mul, mul-assoc) at h in simp (add-mul, mul-left-comm) (omega arith)
 
 module _ (x r : Float) (c : Near x r) where
   pub not-above : lt x r ≡ false → c .whole ≡ toUnsigned 64 x
@@ -239,7 +223,8 @@ module _ (x r : Float) (c : Near x r) where
 
   -- the middle between r and the next whole number
   middle-value : HasValue (add binary64 r half64) false (c .whole * 2 + 1) 2
-  middle-value = subst (λ (z : Float). HasValue (add binary64 z half64) false (c .whole * 2 + 1) 2) (sym (c .is)) (half-more (c .whole) (c .small))
+  unfolding ofBits
+  middle-value = subst (λ (z : Float). HasValue (add binary64 z half64) false (c .whole * 2 + 1) 2) (sym (c .is)) (half-more binary64 (c .whole) (omega (arith, c .small)))
 
   pub reached : T (le (add binary64 r half64) x) → c .whole + 1 ≡ rounded x
   reached h =

@@ -1,9 +1,11 @@
 // Steps on floats that the Rust takes by methods and by `as`, each bit-exact: picks, casts, rounding, the root.
 ghost use mathlib.Core.Path.{_≡_};
+ghost use Prim.Native.Nat.{_+_, _*_, _/_, _%_, _^_, _≤_, _<_};
 ghost use lib.Dec.{T};
-ghost use lib.Ieee.{toUnsigned, le};
+ghost use lib.Ieee.{binary32, binary64, toUnsigned, ofBits, le};
 ghost use Rattle.spec.specs.Floats.{zero64, larger, smaller, held, magnitude, rounded};
 ghost use Rattle.spec.specs.Value.{full16};
+ghost use Rattle.spec.specs.Root.{wholeRoot, rootOf, root};
 
 // `f64::max`: a NaN in the first place loses, and of two equals the second is given.
 pub fn max_f64(a: f64, b: f64) -> f64
@@ -65,6 +67,69 @@ pub fn f64_as_u64(x: f64) -> u64
     0
 }
 
+// `f32 as u64`, likewise.
+pub fn f32_as_u64(x: f32) -> u64
+    ensures { λ r. ⌜ r ≡ toUnsigned 64 x ⌝ }
+{
+    if x > -1.0 {
+        if x < 18446744073709551616.0 {
+            return std::num::truncating_f32_to_u64(x);
+        }
+        return 18446744073709551615;
+    }
+    0
+}
+
+// `f64::round` and then `as u64`: half away from zero. From 2^52 on every f64 is whole.
+pub fn round_f64_as_u64(x: f64) -> u64
+    ensures { λ r. ⌜ r ≡ rounded x ⌝ }
+{
+    let n = f64_as_u64(x);
+    if n < 4503599627370496 {
+        if n as f64 + 0.5 <= x {
+            return n + 1;
+        }
+    }
+    n
+}
+
+// `f32::round` and then `as u64`, likewise. From 2^23 on every f32 is whole.
+pub fn round_f32_as_u64(x: f32) -> u64
+    ensures { λ r. ⌜ r ≡ rounded x ⌝ }
+{
+    let n = f32_as_u64(x);
+    if n < 8388608 {
+        if n as f32 + 0.5 <= x {
+            return n + 1;
+        }
+    }
+    n
+}
+
+// `f64::from_bits`: every NaN pattern gives the NaN.
+pub fn f64_from_bits(n: u64) -> f64
+    ensures { λ r. ⌜ r ≡ ofBits binary64 n ⌝ }
+{
+    if n % 0x8000_0000_0000_0000 / 0x10_0000_0000_0000 == 2047 {
+        if n % 0x10_0000_0000_0000 != 0 {
+            return 0.0 / 0.0;
+        }
+    }
+    f64::from_bits(n)
+}
+
+// `f32::from_bits`, likewise.
+pub fn f32_from_bits(n: u32) -> f32
+    ensures { λ r. ⌜ r ≡ ofBits binary32 n ⌝ }
+{
+    if n % 0x8000_0000 / 0x80_0000 == 255 {
+        if n % 0x80_0000 != 0 {
+            return 0.0 / 0.0;
+        }
+    }
+    f32::from_bits(n)
+}
+
 // The fraction dropped, for an x from 0.0 to 65535.0: 2^52 added and taken off leaves the nearest whole number.
 pub fn trunc_small(x: f64) -> u32
     requires { ⌜ T (le zero64 x) ⌝ ∗ ⌜ T (le x full16) ⌝ }
@@ -83,4 +148,73 @@ pub fn round_small(x: f64) -> u32
     let nearest = x + 4503599627370496.0 - 4503599627370496.0;
     let n = nearest as i32 as u32;
     if nearest + 0.5 <= x { n + 1 } else { n }
+}
+
+// A whole-number root under way: its digits so far, what their square leaves, and the digits of the number to come.
+pub struct Rooting {
+    pub root: u64,
+    pub rest: u64,
+    pub digits: u64,
+}
+
+// Two digits of the number more, and one of the root: 1 where the square stays within.
+fn next_digit(s: Rooting) -> Rooting
+    requires { ⌜ s .root < 2 ^ 54 ⌝ ∗ ⌜ s .rest ≤ s .root * 2 ⌝ ∗ ⌜ s .digits < 2 ^ 54 ⌝ }
+    ensures { λ r. ⌜ r .root * r .root + r .rest ≡ (s .root * s .root + s .rest) * 4 + s .digits / 2 ^ 52 ⌝ ∗ ⌜ r .rest ≤ r .root * 2 ⌝ ∗ ⌜ r .digits ≡ s .digits % 2 ^ 52 * 4 ⌝ ∗ ⌜ r .root ≤ s .root * 2 + 1 ⌝ }
+{
+    let rest = s.rest * 4 + s.digits / 0x10_0000_0000_0000;
+    let digits = s.digits % 0x10_0000_0000_0000 * 4;
+    let trial = s.root * 4 + 1;
+    if trial <= rest {
+        Rooting { root: s.root * 2 + 1, rest: rest - trial, digits: digits }
+    } else {
+        Rooting { root: s.root * 2, rest: rest, digits: digits }
+    }
+}
+
+// The 54 digits of the whole-number root of digits * 2^54.
+fn whole_root(digits: u64) -> u64
+    requires { ⌜ digits < 2 ^ 54 ⌝ }
+    ensures { λ r. ⌜ r ≡ wholeRoot (digits * 2 ^ 54) 54 0 ⌝ }
+{
+    let mut s = Rooting { root: 0, rest: 0, digits: digits };
+    let mut i = 0u64;
+    while i < 54 {
+        s = next_digit(s);
+        i += 1;
+    }
+    s.root
+}
+
+// The root of q * 2^(k - 1074), q moved up to its 107 or 108 digits by its leading bit.
+fn root_of(q: u64, k: u64) -> f64
+    requires { ⌜ 0 < q ⌝ ∗ ⌜ q < 2 ^ 53 ⌝ ∗ ⌜ k < 2046 ⌝ }
+    ensures { λ r. ⌜ r ≡ rootOf q k ⌝ }
+{
+    let up = u64::leading_zeros(q) as u64 - 11;
+    let odd = (k + up) % 2;
+    let root = whole_root(q << (up + odd));
+    f64_from_bits((k + 1022 - up - odd) / 2 * 0x10_0000_0000_0000 + (root + 1) / 2)
+}
+
+// `f64::sqrt`: correctly rounded, the zeros and the infinity their own roots, the NaN below zero.
+pub fn sqrt_f64(x: f64) -> f64
+    ensures { λ r. ⌜ r ≡ root x ⌝ }
+{
+    if x > 0.0 {
+        let bits = f64::to_bits(x);
+        let field = bits / 0x10_0000_0000_0000;
+        let digits = bits % 0x10_0000_0000_0000;
+        if field == 0 {
+            return root_of(digits, 0);
+        }
+        if field < 2047 {
+            return root_of(digits + 0x10_0000_0000_0000, field - 1);
+        }
+        return x;
+    }
+    if x == 0.0 {
+        return x;
+    }
+    0.0 / 0.0
 }

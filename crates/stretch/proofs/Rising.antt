@@ -1,6 +1,6 @@
 -- `stretchByte` rises with the value, whatever the ends. Assumes nothing.
 use mathlib.Core.Path.{_≡_, refl, sym, _∙_, subst}
-use Prim.Native.Nat.{ℕ, _+_, _*_, _-_, _^_, _≤_, _<_, min, zero-le}
+use Prim.Native.Nat.{ℕ, _+_, _*_, _/_, _-_, _^_, _≤_, _<_, min, zero-le}
 use native.Mathlib.Omega.{arith}
 use native.Mathlib.Nat.{add-mul, mul-assoc, mul-comm, mul-left-comm, mul-le-mul-right, mul-one, mul-pos}
 use mathlib.Core.Bool.{Bool, true, false, cond, true≢false}
@@ -8,6 +8,7 @@ use lib.IntN.{pos}
 use lib.Dec.{T, ltb, lit<}
 use borrow.Author.Tests.{ltb-true}
 use lib.Ieee.{Float, nan, inf, fin, binary32, up, down, round, sub, mul, div, le, ofInt, ofBits}
+use lib.Ieee.Back.{round-whole}
 use lib.Ieee.Exact.{HasValue}
 use lib.Ieee.Fits.{down-pos}
 use lib.Ieee.Nearest.{div-mono}
@@ -19,9 +20,15 @@ use Rattle.spec.specs.Stretch.{of16, stretchByte}
 use Rattle.numeric.proofs.Order.{plus, less, le→cross, only-top, none}
 use Rattle.numeric.proofs.Round.{Rounds, rounds-le}
 use Rattle.numeric.proofs.Ops.{sub-le, mul-le, sub-rounds, div-rounds, num-pos}
-use Rattle.stretch.proofs.Rounding.{halfUp, full32, whole-value}
+
+abbrev full32 : Float
+full32 = ofBits binary32 0x437f_0000
 
 -- ---- rounding
+-- a / c to the nearest whole number, and up from halfway
+abbrev halfUp : ℕ → ℕ → ℕ
+halfUp a c = (a * 2 + c) / (c * 2)
+
 half-mono : (a c b d : ℕ) → 0 < c → 0 < d → a * d ≤ b * c → halfUp a c ≤ halfUp b d
 half-mono a c b d C D h = div-mono (a * 2 + c) (c * 2) (b * 2 + d) (d * 2) (mul-pos C (lit< tt)) (mul-pos D (lit< tt)) (wide a c b d h)
   where
@@ -58,6 +65,10 @@ scaled lo hi x = mul binary32 (sub binary32 (of16 x) (of16 lo)) (div binary32 fu
 pub ofInt-le : (x y : ℕ) → x ≤ y → T (le (ofInt binary32 (pos x)) (ofInt binary32 (pos y)))
 unfolding ofInt
 ofInt-le x y h = round-mono binary32 x 1 y 1 (lit< tt) (lit< tt) (omega arith)
+
+whole-value : (k : ℕ) → k ≤ 2 ^ 24 → HasValue (of16 k) false k 1
+unfolding ofInt
+whole-value k h = round-whole binary32 false k h
 
 parts : (x : Float) (a : ℕ) → HasValue x false a 1 → T (finite x) × (plus x ≡ a * den x) × (less x ≡ 0)
 parts nan a h = absurd h

@@ -14,18 +14,8 @@ ghost use Rattle.stretch.specs.Tables.{Stretches};
 fn round_byte(z: f32) -> u8
     ensures { λ r. ⌜ r ≡ min (rounded z) 255 ⌝ }
 {
-    if z > 0.0 {
-        if z < 255.0 {
-            let n = std::num::truncating_f32_to_u64(z);
-            let middle = (2 * n + 1) as f32 * 0.5;
-            if middle <= z {
-                return (n + 1) as u8;
-            }
-            return n as u8;
-        }
-        return 255;
-    }
-    0
+    let n = numeric::round_f32_as_u64(z);
+    if n < 255 { n as u8 } else { 255 }
 }
 
 // x between the ends lo and hi, as a byte: 0 unless lo is below hi.

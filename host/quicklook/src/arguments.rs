@@ -109,6 +109,26 @@ pub enum Command {
         #[arg(long)]
         out: PathBuf,
     },
+    /// A page for the deck: one file that opens in any browser, with the picture, its values, statistics and patches to rank
+    View {
+        /// Decibels of band 1, which counts as co-pol
+        db1: PathBuf,
+        marks1: PathBuf,
+        /// Decibels of band 2; without it the page shows the grey of band 1
+        #[arg(requires = "marks2")]
+        db2: Option<PathBuf>,
+        marks2: Option<PathBuf>,
+        #[arg(long, value_enum, default_value = "default")]
+        strategy: Strategy,
+        #[arg(long, value_enum, default_value = "default")]
+        mode: Mode,
+        /// The page's title; by default the names of the decibel files
+        #[arg(long)]
+        title: Option<String>,
+        /// Where the page goes
+        #[arg(long)]
+        out: PathBuf,
+    },
     /// Makes a synthetic sea scene of two bands, and runs every step on it
     Demo {
         /// A folder for the scene and its pictures

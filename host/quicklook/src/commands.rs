@@ -6,6 +6,7 @@ use crate::output::{self, Picture};
 use crate::progress::step;
 use crate::raster::{self, Depth, Raster};
 use crate::trouble::{Outcome, Trouble};
+use crate::view;
 use engine::{AutoscaleStrategy, Band, PictureOut, PolarizationOperation, SyntheticRgbMode};
 use std::io::Write;
 use std::path::{Path, PathBuf};
@@ -29,34 +30,38 @@ pub fn run(command: Command) -> Outcome<()> {
         Command::Stretch { grey, out } => stretch(&grey, &out),
         Command::Pad { grey, out } => pad(&grey, &out),
         Command::Op { operation, a, b, out } => operate(operation.into(), &a, &b, &out),
+        Command::View { db1, marks1, db2, marks2, strategy, mode, title, out } => {
+            let second = db2.zip(marks2).map(|(db, marks)| BandFiles { db, marks });
+            view::run(&BandFiles { db: db1, marks: marks1 }, second.as_ref(), strategy.into(), mode.into(), title, &out)
+        }
         Command::Demo { folder, side } => demo::run(&folder, side),
     }
 }
 
 /// Decibels and marks of one band, of the same sides.
-struct BandRasters {
+pub struct BandRasters {
     db: Raster<f64>,
     marks: Raster<u8>,
 }
 
 impl BandRasters {
-    fn read(files: &BandFiles) -> Outcome<Self> {
+    pub fn read(files: &BandFiles) -> Outcome<Self> {
         let (db, marks) = rayon::join(|| raster::decibels(&files.db), || raster::marks(&files.marks));
         let (db, marks) = (db?, marks?);
         same_sides(&files.db, (db.rows, db.cols), &files.marks, (marks.rows, marks.cols))?;
         Ok(BandRasters { db, marks })
     }
 
-    fn sides(&self) -> (usize, usize) {
+    pub fn sides(&self) -> (usize, usize) {
         (self.db.rows, self.db.cols)
     }
 
-    fn band(&self) -> Band<'_> {
+    pub fn band(&self) -> Band<'_> {
         Band { db: self.db.elements(), valid_mask: self.marks.elements() }
     }
 }
 
-fn same_sides(a: &Path, of_a: (usize, usize), b: &Path, of_b: (usize, usize)) -> Outcome<()> {
+pub fn same_sides(a: &Path, of_a: (usize, usize), b: &Path, of_b: (usize, usize)) -> Outcome<()> {
     if of_a == of_b {
         return Ok(());
     }
@@ -65,7 +70,7 @@ fn same_sides(a: &Path, of_a: (usize, usize), b: &Path, of_b: (usize, usize)) ->
 }
 
 /// Room for n elements. A side above 4,096 is refused by the engine, so no room is made for it.
-fn room<T: Clone + Default>(rows: usize, cols: usize, each: usize) -> Vec<T> {
+pub fn room<T: Clone + Default>(rows: usize, cols: usize, each: usize) -> Vec<T> {
     if rows > 4096 || cols > 4096 { Vec::new() } else { vec![T::default(); rows * cols * each] }
 }
 

@@ -9,6 +9,7 @@ mod output;
 mod progress;
 mod raster;
 mod trouble;
+mod view;
 
 use clap::Parser;
 use std::process::ExitCode;

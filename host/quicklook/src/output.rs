@@ -45,15 +45,20 @@ pub fn check(path: &Path, float: bool) -> Outcome<()> {
 
 pub fn write(path: &Path, rows: usize, cols: usize, picture: Picture) -> Outcome<()> {
     let format = format_of(path)?;
+    replace(path, |out| match format {
+        Format::Png => write_png(path, out, rows, cols, picture),
+        Format::Tiff => write_tiff(path, out, rows, cols, picture),
+        Format::Npy => write_npy(out, rows, cols, picture).map_err(|e| Trouble::file(path, e)),
+    })
+}
+
+/// Writes a file beside its place and renames it once it is whole.
+pub fn replace(path: &Path, fill: impl FnOnce(&mut BufWriter<File>) -> Outcome<()>) -> Outcome<()> {
     let beside = beside(path);
     let done = (|| {
         let file = File::create(&beside).map_err(|e| Trouble::file(&beside, e))?;
         let mut out = BufWriter::with_capacity(1 << 20, file);
-        match format {
-            Format::Png => write_png(path, &mut out, rows, cols, picture)?,
-            Format::Tiff => write_tiff(path, &mut out, rows, cols, picture)?,
-            Format::Npy => write_npy(&mut out, rows, cols, picture).map_err(|e| Trouble::file(path, e))?,
-        }
+        fill(&mut out)?;
         let file = out.into_inner().map_err(|e| Trouble::file(path, e.error()))?;
         file.sync_all().map_err(|e| Trouble::file(path, e))?;
         fs::rename(&beside, path).map_err(|e| Trouble::file(path, e))

@@ -170,6 +170,19 @@ fn sized<T: Element>(path: &Path, rows: usize, cols: usize, elements: Vec<T>) ->
 
 /// The one band of a TIFF.
 fn tiff_band(path: &Path) -> Outcome<(usize, usize, DecodingResult)> {
+    guarded(path, || decode_tiff(path))
+}
+
+/// A decoder that gives up by a panic on a damaged file is turned into the file's trouble.
+fn guarded<T>(path: &Path, decode: impl FnOnce() -> Outcome<T> + std::panic::UnwindSafe) -> Outcome<T> {
+    let hook = std::panic::take_hook();
+    std::panic::set_hook(Box::new(|_| {}));
+    let decoded = std::panic::catch_unwind(decode);
+    std::panic::set_hook(hook);
+    decoded.unwrap_or_else(|_| Err(Trouble::file(path, "damaged: its decoder gave up")))
+}
+
+fn decode_tiff(path: &Path) -> Outcome<(usize, usize, DecodingResult)> {
     let file = File::open(path).map_err(|e| Trouble::file(path, e))?;
     let bad = |e: tiff::TiffError| Trouble::file(path, format!("TIFF: {e}"));
     let mut limits = Limits::default();
@@ -189,6 +202,10 @@ fn tiff_band(path: &Path) -> Outcome<(usize, usize, DecodingResult)> {
 
 /// The one grey band of a PNG.
 fn png_band(path: &Path) -> Outcome<Depth> {
+    guarded(path, || decode_png(path))
+}
+
+fn decode_png(path: &Path) -> Outcome<Depth> {
     let bytes = std::fs::read(path).map_err(|e| Trouble::file(path, e))?;
     let bad = |e: png::DecodingError| Trouble::file(path, format!("PNG: {e}"));
     let mut decoder = png::Decoder::new(Cursor::new(&bytes));

@@ -156,14 +156,7 @@ pub fn marks(data: &[f32], out: usize) -> Answer<Vec<u8>> {
 
 /// Document 01's chaining: both bands to U8, Tamed by the function for synRGB with band 1 as co-pol and without the stretch, then the
 /// colours of the two grey outputs.
-pub fn picture(
-    strategy: AutoscaleStrategy,
-    mode: SyntheticRgbMode,
-    sides: Sides,
-    band1: Band,
-    band2: Band,
-    lent: Lent,
-) -> Answer<Picture> {
+pub fn picture(strategy: AutoscaleStrategy, mode: SyntheticRgbMode, sides: Sides, band1: Band, band2: Band, lent: Lent) -> Answer<Picture> {
     let n = table::count(sides);
     table::first(&[
         table::too_wide(sides),

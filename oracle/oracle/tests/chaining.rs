@@ -63,7 +63,8 @@ fn windows_are_of_the_statistics() {
         let (db, marks) = scene(seed, 60, 1.0 + 0.1 * seed as f64);
         let band = Band { db: &db, marks: &marks };
         let sides = Sides { rows: 5, cols: 12 };
-        let [min, max, mean, std, median, p01, p02, p05, p10, p25, p75, p90, p95, p98, p99] = oracle::statistics(sides, band).unwrap().floats;
+        let [min, max, mean, std, median, p01, p02, p05, p10, p25, p75, p90, p95, p98, p99] =
+            oracle::statistics(sides, band).unwrap().floats;
         let window = |strategy| oracle::window(strategy, sides, band).unwrap().unwrap();
         let ends = |strategy| (window(strategy).low, window(strategy).high, window(strategy).gamma);
         let (spread, iqr) = (max - min, p75 - p25);
@@ -80,7 +81,15 @@ fn windows_are_of_the_statistics() {
             _ => (p05, p95, 1.0),
         };
         assert_eq!(ends(Adaptive), adaptive);
-        let gamma = if spread < 15.0 { 1.1 } else if iqr < 5.0 { 1.0 } else if spread > 40.0 { 0.9 } else { 1.0 };
+        let gamma = if spread < 15.0 {
+            1.1
+        } else if iqr < 5.0 {
+            1.0
+        } else if spread > 40.0 {
+            0.9
+        } else {
+            1.0
+        };
         assert_eq!(window(Standard).gamma, gamma);
         for strategy in STRATEGIES {
             let w = window(strategy);
@@ -129,6 +138,30 @@ fn sides_of_clahe() {
         assert_eq!(oracle::grey_u8(Clahe, sides, blank, 8 * s, 16_384), Ok(vec![0; 8 * s]));
         assert!(oracle::window(Clahe, sides, band).unwrap().is_some());
     }
+}
+
+/// Tile sums: between two tiles of even sides a pixel in the middle of a tile is equalised by that tile's sum at its level alone.
+#[test]
+fn tile_sums_are_those_sampled() {
+    let sides = Sides { rows: 32, cols: 48 };
+    let (db, marks) = scene(5, 32 * 48, 1.0);
+    let norm: Vec<f64> = db.iter().map(|v| if v.is_nan() { 0.0 } else { (v + 15.5).clamp(0.0, 1.0) }).collect();
+    let (equalised, sums) = oracle::clahe(sides, Band { db: &norm, marks: &marks }).unwrap();
+    assert_eq!(sums.len(), 16_384);
+    let mut compared = 0;
+    for ty in 0..8 {
+        for tx in 0..8 {
+            let place = (ty * 4 + 2) * 48 + tx * 6 + 3;
+            let level = (norm[place] * 255.0).round() as usize;
+            if marks[place] == 1 {
+                assert_eq!(equalised[place], sums[(ty * 8 + tx) * 256 + level]);
+                compared += 1;
+            }
+            // running sums end at 1 where the tile has a valid pixel
+            assert_eq!(sums[(ty * 8 + tx) * 256 + 255], 1.0);
+        }
+    }
+    assert!(compared > 40);
 }
 
 /// The list limit, and one above it.

@@ -144,15 +144,29 @@ pub fn short() -> Vec<Scene> {
     all
 }
 
-/// Scenes whose low end is above the high end.
-pub fn inverted() -> Vec<Scene> {
-    // by roundings: in the last places of 512 p05 is above p95
-    let unit = 2f64.powi(-43);
-    let at = |k: usize, count: usize| vec![512.0 + k as f64 * unit; count];
-    let close = [at(0, 1), at(2069, 1), at(98, 100), at(99, 1898)].concat();
-    // by whole decibels: Standard's margin of 0.02 of the spread passes p02
-    let wide: Vec<f64> = [-1000.0].into_iter().chain((0..49).map(|k| 970.0 + 30.0 * f64::from(k) / 48.0)).collect();
-    vec![Scene::new(40, 50, &close, &[1; 2000]), Scene::new(5, 10, &wide, &[1; 50])]
+/// 512 dB and steps of its last place: 0 and the spread once, then two neighbouring values. Where these round apart, the lower
+/// percentile comes out above the higher one.
+fn close(cols: usize, rows: usize, spread: usize, lower: usize, lower_count: usize) -> Scene {
+    let at = |step: usize, count: usize| vec![512.0 + step as f64 * 2f64.powi(-43); count];
+    let n = rows * cols;
+    let db = [at(0, 1), at(spread, 1), at(lower, lower_count), at(lower + 1, n - 2 - lower_count)].concat();
+    Scene::new(rows, cols, &db, &vec![1; n])
+}
+
+/// p05 above p95: Default's low is above its high.
+pub fn inverted_default() -> Scene {
+    close(50, 40, 2069, 98, 100)
+}
+
+/// p25 above p99: Tamed's low is above its high.
+pub fn inverted_tamed() -> Scene {
+    close(28, 11, 2075, 76, 77)
+}
+
+/// By whole decibels: Standard's margin of 0.02 of the spread passes p02.
+pub fn inverted_standard() -> Scene {
+    let db: Vec<f64> = [-1000.0].into_iter().chain((0..49).map(|k| 970.0 + 30.0 * f64::from(k) / 48.0)).collect();
+    Scene::new(5, 10, &db, &[1; 50])
 }
 
 /// Scenes like those of the trade, up to 100 pixels.
@@ -275,8 +289,9 @@ fn tall(rng: &mut Rng) -> Scene {
 
 pub fn statistics_part(rng: &mut Rng) -> Part {
     let mut part = Part::new("statistics");
-    let scenes = [short(), edges(), usual(rng), inverted(), altered(rng), damaged(rng), vec![tall(rng)]].concat();
+    let scenes = [short(), edges(), usual(rng), altered(rng), damaged(rng)].concat();
     scenes.iter().for_each(|scene| statistics(&mut part, scene));
+    [inverted_default(), inverted_standard(), inverted_tamed(), tall(rng)].iter().for_each(|scene| statistics(&mut part, scene));
     // counts whose product with a fraction is a whole number or next to one
     for n in [19, 20, 21, 49, 50, 51, 99, 100, 101, 199, 200, 201] {
         let db: Vec<f64> = (0..n).map(|k| (k * 37 % n) as f64 * 0.5 - 40.0).collect();
@@ -290,9 +305,9 @@ pub fn window_part(rng: &mut Rng) -> Part {
     for scene in [short(), edges(), usual(rng), altered(rng)].concat() {
         STRATEGIES.iter().for_each(|&strategy| window(&mut part, strategy, &scene));
     }
-    let inverted = inverted();
-    window(&mut part, Default, &inverted[0]);
-    STRATEGIES.iter().for_each(|&strategy| window(&mut part, strategy, &inverted[1]));
+    window(&mut part, Default, &inverted_default());
+    window(&mut part, Tamed, &inverted_tamed());
+    STRATEGIES.iter().for_each(|&strategy| window(&mut part, strategy, &inverted_standard()));
     for (k, scene) in damaged(rng).iter().enumerate() {
         window(&mut part, STRATEGIES[k % 7], scene);
     }
@@ -368,8 +383,10 @@ fn greys(rng: &mut Rng, mut grey: impl FnMut(AutoscaleStrategy, &Scene, usize, u
             grey(strategy, &scene, 12, 5);
         }
     }
-    grey(Default, &inverted()[0], 2000, 0);
-    grey(Robust, &inverted()[1], 50, 0);
+    grey(Default, &inverted_default(), 2000, 0);
+    grey(Tamed, &inverted_tamed(), 308, 0);
+    grey(Standard, &inverted_standard(), 50, 0);
+    grey(Robust, &inverted_standard(), 50, 0);
     for (k, scene) in damaged(rng).iter().enumerate() {
         let out = scene.count().min(12);
         grey(STRATEGIES[k % 7], scene, out, WORK);

@@ -48,8 +48,8 @@ pub fn compose(rng: &mut Rng) -> Part {
     for f in 3..=40 {
         add(&mut part, f, true, &with_level(diagonal(f * 5), f));
     }
-    for k in 0..24 {
-        add(&mut part, k, true, &with_level(diagonal(11 * k), 40));
+    for k in 0..8 {
+        add(&mut part, k, true, &with_level(diagonal(31 * k), 40));
     }
     // one pixel, and the samples: f = 3
     for (v1, v2) in [(255, 255), (255, 3), (3, 255), (4, 4), (3, 3), (3, 4), (4, 3), (0, 0), (0, 255), (255, 0), (1, 1), (255, 1)] {
@@ -80,7 +80,23 @@ pub fn compose(rng: &mut Rng) -> Part {
         }
     }
     let bytes: Vec<u8> = (0..16).map(|k| k * 17).collect();
-    for (a, b, out) in [(0, 0, 1), (1, 1, 0), (1, 1, 2), (1, 1, 4), (1, 1, 1), (1, 0, 3), (0, 1, 0), (0, 1, 3), (5, 4, 15), (4, 5, 12), (4, 5, 15), (4, 4, 16), (4, 4, 8), (4, 4, 4), (2, 4, 12)] {
+    for (a, b, out) in [
+        (0, 0, 1),
+        (1, 1, 0),
+        (1, 1, 2),
+        (1, 1, 4),
+        (1, 1, 1),
+        (1, 0, 3),
+        (0, 1, 0),
+        (0, 1, 3),
+        (5, 4, 15),
+        (4, 5, 12),
+        (4, 5, 15),
+        (4, 4, 16),
+        (4, 4, 8),
+        (4, 4, 4),
+        (2, 4, 12),
+    ] {
         for strategy in [Default, Tamed] {
             composition(&mut part, MODES[2], strategy, &bytes[..a], &bytes[..b], out);
         }

@@ -7,6 +7,7 @@ mod numeric;
 mod pictures;
 mod record;
 mod rng;
+mod scenes;
 mod tiles;
 
 use std::path::Path;
@@ -41,8 +42,8 @@ fn write(folder: &Path) -> io::Result<()> {
     let (mut records, mut bytes) = (0, 0);
     for part in parts() {
         fs::write(folder.join(part.name).with_extension("bin"), &part.bytes)?;
-        println!("{:10} {:6} records {:5} refused {:8} bytes", part.name, part.records, part.refused, part.bytes.len());
-        records += part.records;
+        println!("{:10} {:6} records {:5} refused {:8} bytes", part.name, part.records(), part.refused, part.bytes.len());
+        records += part.records();
         bytes += part.bytes.len();
     }
     println!("{:10} {records:6} records               {bytes:8} bytes", "all");
@@ -52,10 +53,26 @@ fn write(folder: &Path) -> io::Result<()> {
 fn main() -> io::Result<()> {
     let arguments: Vec<String> = env::args().skip(1).collect();
     match arguments.iter().map(String::as_str).collect::<Vec<_>>()[..] {
+        ["scenes", folder] => scenes::write(Path::new(folder), SEED),
         [folder] => write(Path::new(folder)),
         _ => {
-            eprintln!("usage: vectors FOLDER");
+            eprintln!("usage: vectors FOLDER, or vectors scenes FOLDER");
             process::exit(2)
+        }
+    }
+}
+
+#[cfg(test)]
+mod tests {
+    use super::*;
+
+    /// The files in the repository's vectors/ are what this program writes.
+    #[test]
+    fn stored_sample_is_written_by_this_program() {
+        let folder = Path::new(env!("CARGO_MANIFEST_DIR")).join("../../vectors");
+        for part in parts() {
+            let stored = fs::read(folder.join(part.name).with_extension("bin")).unwrap();
+            assert!(stored == part.bytes, "{}.bin", part.name);
         }
     }
 }

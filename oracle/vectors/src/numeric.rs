@@ -88,11 +88,11 @@ pub fn numeric(rng: &mut Rng) -> Part {
     let mut part = Part::new("numeric");
     let (doubles, singles) = (doubles(), singles());
     let mut wide = doubles.clone();
-    wide.extend((0..256).map(|_| rng.around() * 1000.0));
-    wide.extend((0..128).map(|_| f64::from_bits(rng.bits())));
+    wide.extend((0..96).map(|_| rng.around() * 1000.0));
+    wide.extend((0..64).map(|_| f64::from_bits(rng.bits())));
     let mut wide32 = singles.clone();
-    wide32.extend((0..256).map(|_| (rng.around() * 300.0) as f32));
-    wide32.extend((0..128).map(|_| f32::from_bits(rng.bits() as u32)));
+    wide32.extend((0..96).map(|_| (rng.around() * 300.0) as f32));
+    wide32.extend((0..64).map(|_| f32::from_bits(rng.bits() as u32)));
 
     one(&mut part, 32, &radicands(rng), f64::sqrt);
     one(&mut part, 33, &wide, f64::round);

@@ -153,10 +153,14 @@ fn refusals(part: &mut Part, rng: &mut Rng) {
             }
             picture(part, Standard, MODES[0], &with_fault(&band1, first), &with_fault(&band2, second));
         }
-        // 1 before any
-        let mut wide = with_fault(&band1, first);
-        wide.sides.rows = 4097;
-        calls::picture(part, Standard, MODES[0], &wide, &band2, Lent { grey1: 49, grey2: 49, rgb: 147, work: 0 });
+        // 1 before any, in either band
+        let lent = Lent { grey1: 49, grey2: 49, rgb: 147, work: 0 };
+        let (mut wide, mut bad) = (band1.clone(), with_fault(&band1, first));
+        (wide.sides.rows, bad.sides.rows) = (4097, 4097);
+        calls::picture(part, Standard, MODES[0], &bad, &band2, lent);
+        calls::picture(part, Standard, MODES[0], &wide, &with_fault(&band2, first), lent);
+        wide.sides.cols = 6;
+        calls::picture(part, Clahe, MODES[0], &wide, &band2, lent);
     }
     // with 5: six rows under Clahe
     let shorter = |scene: &Scene, missing: usize| {

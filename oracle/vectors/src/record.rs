@@ -1,4 +1,6 @@
 //! Records of a vector file. README.md has the layout.
+use std::collections::HashSet;
+
 use oracle::{Answer, AutoscaleStrategy, Sides, SyntheticRgbMode, MODES, STRATEGIES};
 
 /// No list is longer, so that a program without a heap can read every record.
@@ -107,17 +109,21 @@ impl Record {
     }
 }
 
-/// One file: records one after another.
+/// One file: records one after another, none twice.
 pub struct Part {
     pub name: &'static str,
-    pub records: usize,
     pub refused: usize,
     pub bytes: Vec<u8>,
+    bodies: HashSet<Vec<u8>>,
 }
 
 impl Part {
     pub fn new(name: &'static str) -> Self {
-        Part { name, records: 0, refused: 0, bytes: Vec::new() }
+        Part { name, refused: 0, bytes: Vec::new(), bodies: HashSet::new() }
+    }
+
+    pub fn records(&self) -> usize {
+        self.bodies.len()
     }
 
     pub fn add(&mut self, record: Record) {
@@ -126,9 +132,10 @@ impl Part {
         record.cols.put(&mut body);
         record.lists.put(&mut body);
         body.extend(record.bytes);
-        (body.len() as u32).put(&mut self.bytes);
-        self.bytes.extend(body);
-        self.records += 1;
-        self.refused += usize::from(record.reply != 0);
+        if self.bodies.insert(body.clone()) {
+            (body.len() as u32).put(&mut self.bytes);
+            self.bytes.extend(body);
+            self.refused += usize::from(record.reply != 0);
+        }
     }
 }

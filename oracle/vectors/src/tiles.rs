@@ -30,7 +30,7 @@ fn with_hole(rng: &mut Rng, rows: usize, cols: usize) -> Scene {
     scene
 }
 
-/// Every square of the sides, and the rectangles of up to 700 pixels: spread values, few levels and holes in turn.
+/// Every square of the sides, and the rectangles of up to 350 pixels: spread values, few levels and holes in turn.
 pub fn scenes(rng: &mut Rng) -> Vec<Scene> {
     let mut all = Vec::new();
     for (i, &rows) in SIDES.iter().enumerate() {
@@ -55,7 +55,7 @@ pub fn scenes(rng: &mut Rng) -> Vec<Scene> {
 }
 
 /// The 256 sums of a tile with these counts among its rows × cols pixels, the rest invalid. The Rust is given a band of 64 such tiles.
-fn sums_of_counts(sides: Sides, counts: &[u32]) -> Vec<f64> {
+pub fn sums_of_counts(sides: Sides, counts: &[u32]) -> Vec<f64> {
     let (rows, cols) = (8 * sides.rows, 8 * sides.cols);
     let (mut norm, mut marks) = (vec![0.0; rows * cols], vec![0; rows * cols]);
     let mut places = (0..sides.rows).flat_map(|r| (0..sides.cols).map(move |c| r * cols + c));
@@ -89,7 +89,8 @@ fn dealt(rng: &mut Rng, area: u32, bins: usize, invalid: u32) -> Vec<u32> {
 pub fn clahe(rng: &mut Rng) -> Part {
     let mut part = Part::new("clahe");
     // areas below, at and above 128 and 256, up to a tile of a 4,096 by 4,096 band
-    let areas = [(1, 1), (2, 1), (8, 8), (1, 127), (8, 16), (3, 43), (10, 13), (15, 17), (16, 16), (1, 257), (20, 50), (64, 64), (512, 512)];
+    let areas =
+        [(1, 1), (2, 1), (8, 8), (1, 127), (8, 16), (3, 43), (10, 13), (15, 17), (16, 16), (1, 257), (20, 50), (64, 64), (512, 512)];
     for (rows, cols) in areas {
         let area = (rows * cols) as u32;
         let mut one = vec![0; 256];
@@ -117,11 +118,9 @@ pub fn clahe(rng: &mut Rng) -> Part {
         let scene = [clipping(rng, rows, cols), with_hole(rng, rows, cols)][rows % 2].clone();
         let (normalised, _) = normalised(&scene);
         let (_, sums) = oracle::clahe(scene.sides, normalised.band()).unwrap();
-        for first in [0u32, 27, 63] {
-            let from = 256 * first as usize;
-            let record = Record::new(18).sides(scene.sides).list(&normalised.db).list(&normalised.marks).list(&[first]);
-            part.add(record.list(&sums[from..from + 256]));
-        }
+        let tiles = [0u32, 27, 63];
+        let some: Vec<f64> = tiles.iter().flat_map(|&t| sums[256 * t as usize..256 * (t as usize + 1)].to_vec()).collect();
+        part.add(Record::new(18).sides(scene.sides).list(&normalised.db).list(&normalised.marks).list(&tiles).list(&some));
     }
     // equalised pixels
     for (rows, cols) in [(7, 7), (8, 8), (7, 16), (15, 8), (14, 14), (16, 21), (24, 15)] {

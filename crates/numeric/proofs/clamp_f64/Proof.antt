@@ -1,3 +1,4 @@
+-- `numeric::clamp_f64` meets its contract. Assumes nothing.
 use borrow.Author.Needs.{needs}
 use Rattle.numeric.proofs.clamp_f64.Statement.{statement}
 use Rattle.numeric.proofs.clamp_f64.Tie as tie

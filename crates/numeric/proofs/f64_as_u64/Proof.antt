@@ -1,3 +1,4 @@
+-- `numeric::f64_as_u64` meets its contract: above -1.0 and below 2^64 the cast is defined, and beyond it is the nearer end. Assumes nothing.
 use mathlib.Core.Path.{sym, subst}
 use lib.Dec.{T}
 use lib.Ieee.{ofBits, neg}

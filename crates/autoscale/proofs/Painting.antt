@@ -1,0 +1,78 @@
+-- The painting of a band, a pixel at a time. Assumes nothing.
+use mathlib.Core.Path.{_≡_, refl, sym, ap, _∙_}
+use mathlib.Core.List.{List, [], _∷_, _++_}
+use Prim.Native.Nat.{ℕ, suc, _+_, _≤_, _<_, min, max}
+use native.Mathlib.Nat.{add-zero}
+use native.Mathlib.Numerals.{add-one}
+use lib.Dec.{T}
+use lib.ListN.{length, take, drop, set, getD}
+use lib.Seq.{getD-drop, take-suc-set}
+use lib.Ieee.{Float, nan, le, ofBits, toUnsigned}
+use Rattle.spec.specs.Floats.{zero64, held}
+use Rattle.spec.specs.Lists.{lowest, highest}
+use Rattle.spec.specs.Pixels.{Pixel, off, pixel, pixels}
+use Rattle.spec.specs.Value.{full8, full16, valueOf, paint}
+use Rattle.numeric.proofs.Small.{held-small, held-cut}
+use Rattle.raster.proofs.Bands.{drop-pixels, pixel-off, pixel-on}
+
+-- ---- one value: what is cut lies within 0..255 or 0..65535
+zero-full8 : T (le zero64 full8)
+unfolding ofBits le
+zero-full8 = tt
+
+zero-full16 : T (le zero64 full16)
+unfolding ofBits le
+zero-full16 = tt
+
+full8-full16 : T (le full8 full16)
+unfolding ofBits le
+full8-full16 = tt
+
+full16-full16 : T (le full16 full16)
+unfolding ofBits le
+full16-full16 = tt
+
+pub small8 : (x : Float) → T (le zero64 (held zero64 full8 x)) × T (le (held zero64 full8 x) full16)
+small8 x = held-small full8 x zero-full8 full8-full16
+
+pub small16 : (x : Float) → T (le zero64 (held zero64 full16 x)) × T (le (held zero64 full16 x) full16)
+small16 x = held-small full16 x zero-full16 full16-full16
+
+pub cut8 : (x : Float) → toUnsigned 64 (held zero64 full8 x) ≤ 255
+unfolding toUnsigned ofBits
+cut8 x = held-cut full8 x zero-full8
+
+pub cut16 : (x : Float) → toUnsigned 64 (held zero64 full16 x) ≤ 65535
+unfolding toUnsigned ofBits
+cut16 x = held-cut full16 x zero-full16
+
+-- ---- one pixel
+pub paint-off : (full low high range : Float) (m : ℕ) (v : Float) → m ≡ 0 → 0 ≡ paint full low high range (pixel m v)
+unfolding paint
+paint-off full low high range m v e = sym (ap (paint full low high range) (pixel-off m v e))
+
+pub paint-on : (full low high range : Float) (m : ℕ) (v : Float) → (m ≡ 0 → ⊥) → valueOf full low high range v ≡ paint full low high range (pixel m v)
+unfolding paint
+paint-on full low high range m v n = sym (ap (paint full low high range) (pixel-on m v n))
+
+-- ---- the pixel at a place
+pub pixels-at : (m : List ℕ) (d : List Float) (i : ℕ) → i < length m → i < length d → pixel (getD m i 0) (getD d i nan) ≡ getD (pixels m d) i off
+pixels-at m d i h k =
+    sym (ap (λ (l : List Pixel). getD l 0 off) (drop-pixels m d i h k)) ∙ getD-drop i (pixels m d) 0 off ∙ ap (λ (j : ℕ). getD (pixels m d) j off) (add-zero i)
+
+-- ---- the ends of what is painted so far
+lowest-snoc : (m x : ℕ) (xs : List ℕ) → lowest m (xs ++ (x ∷ [])) ≡ min (lowest m xs) x
+unfolding lowest
+lowest-snoc m x [] = refl
+lowest-snoc m x (y ∷ ys) = lowest-snoc (min m y) x ys
+
+highest-snoc : (m x : ℕ) (xs : List ℕ) → highest m (xs ++ (x ∷ [])) ≡ max (highest m xs) x
+unfolding highest
+highest-snoc m x [] = refl
+highest-snoc m x (y ∷ ys) = highest-snoc (max m y) x ys
+
+pub lowest-stored : (m lo x : ℕ) (xs : List ℕ) (i : ℕ) → i < length xs → lo ≡ lowest m (take i xs) → min lo x ≡ lowest m (take (i + 1) (set xs i x))
+lowest-stored m lo x xs i h e = rw (add-one) (ap (λ (l : ℕ). min l x) e ∙ sym (lowest-snoc m x (take i xs)) ∙ sym (ap (lowest m) (take-suc-set xs i x h)))
+
+pub highest-stored : (m hi x : ℕ) (xs : List ℕ) (i : ℕ) → i < length xs → hi ≡ highest m (take i xs) → max hi x ≡ highest m (take (i + 1) (set xs i x))
+highest-stored m hi x xs i h e = rw (add-one) (ap (λ (l : ℕ). max l x) e ∙ sym (highest-snoc m x (take i xs)) ∙ sym (ap (highest m) (take-suc-set xs i x h)))

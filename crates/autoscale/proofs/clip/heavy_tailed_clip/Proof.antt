@@ -1,0 +1,15 @@
+-- `autoscale::clip::heavy_tailed_clip` meets its contract. Assumes nothing.
+use Rattle.spec.specs.Window.{heavy, outlier}
+use borrow.Author.Needs.{needs}
+use Rattle.autoscale.proofs.clip.heavy_tailed_clip.Statement.{statement}
+use Rattle.autoscale.proofs.clip.heavy_tailed_clip.Tie as tie
+
+valid-range-requires : tie.Need-valid-range-requires
+valid-range-requires c κs = search needs
+
+returns : tie.Need-returns
+unfolding heavy outlier
+returns c = cc
+
+pub heavy-tailed-clip-spec : {M : Type 1} → statement M
+heavy-tailed-clip-spec = tie.close (tie.spec valid-range-requires returns)

@@ -1,0 +1,19 @@
+-- `autoscale::clip::tamed_clip` meets its contract. Assumes nothing.
+use Rattle.spec.specs.Window.{tamed}
+use borrow.Author.Needs.{needs}
+use Rattle.autoscale.proofs.clip.tamed_clip.Statement.{statement}
+use Rattle.autoscale.proofs.clip.tamed_clip.Tie as tie
+
+min-f64-requires : tie.Need-min-f64-requires
+min-f64-requires c κs = search needs
+
+returns : tie.Need-returns
+unfolding tamed
+returns c = rw (c .before .if1 .taken, c .min-f64 .ensures)
+
+returns-2 : tie.Need-returns-2
+unfolding tamed
+returns-2 c = rw (c .if1 .left)
+
+pub tamed-clip-spec : {M : Type 1} → statement M
+tamed-clip-spec = tie.close (tie.spec min-f64-requires returns returns-2)

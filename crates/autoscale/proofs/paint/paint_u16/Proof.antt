@@ -1,0 +1,76 @@
+-- `autoscale::paint::paint_u16` meets its contract. The invariant: the values before i are those of the pixels before i. Assumes nothing.
+use mathlib.Core.Path.{_≡_, refl, ap, _∙_}
+use mathlib.Core.List.{map}
+use Prim.Native.Nat.{_-_, _≤_}
+use native.Mathlib.Omega.{arith}
+use borrow.Author.Needs.{needs}
+use denote.Ref.{now}
+use lib.ListN.{length, take, length-set}
+use Rattle.spec.specs.Pixels.{off, pixels}
+use Rattle.spec.specs.Value.{full16, paint}
+use Rattle.lists.proofs.Rows.{step, finish}
+use Rattle.raster.proofs.Bands.{pixels-length}
+use Rattle.autoscale.proofs.Painting.{pixels-at}
+use Rattle.autoscale.proofs.paint.paint_u16.Statement.{statement}
+use Rattle.autoscale.proofs.paint.paint_u16.Tie as tie
+
+abbrev Inv-loop : tie.InvT-loop
+Inv-loop db marks low high range out₀ i₀ out i =
+    (i ≤ length out₀) × (length out ≡ length out₀) × (take i out ≡ map (paint full16 low high range) (take i (pixels marks db)))
+
+abbrev μ-loop : tie.MeasureT-loop
+μ-loop db marks low high range out₀ i₀ out i = length out₀ - i
+
+loop-holds : tie.Need-loop-holds Inv-loop μ-loop
+loop-holds c = (omega arith, refl, refl)
+
+mul-pixel-u16 : tie.Need-mul-pixel-u16 Inv-loop μ-loop
+mul-pixel-u16 c = omega arith
+
+shared-slice-read-pixel-u16 : tie.Need-shared-slice-read-pixel-u16 Inv-loop μ-loop
+shared-slice-read-pixel-u16 c = omega arith
+
+shared-slice-read-pixel-u16-2 : tie.Need-shared-slice-read-pixel-u16-2 Inv-loop μ-loop
+shared-slice-read-pixel-u16-2 c = omega arith
+
+pixel-u16-requires : tie.Need-pixel-u16-requires Inv-loop μ-loop
+pixel-u16-requires c κs = search needs
+
+mul-out : tie.Need-mul-out Inv-loop μ-loop
+mul-out c = omega arith
+
+slice-write-out : tie.Need-slice-write-out Inv-loop μ-loop
+slice-write-out c = omega arith
+
+add-i : tie.Need-add-i Inv-loop μ-loop
+add-i c = omega arith
+
+loop-less : tie.Need-loop-less Inv-loop μ-loop
+loop-less c = omega arith
+
+loop-again : tie.Need-loop-again Inv-loop μ-loop
+loop-again c =
+    let l = c .before .before .before .before in
+    let a = l .before .before .before .before .args in
+    let o = l .loop .out in
+    let i = l .loop .i in
+    let x = c .pixel-u16 .result in
+    let g = paint full16 (a .low) (a .high) (a .range) in
+    let e = pixels-length (now (a .valid-mask)) (now (a .db)) (omega arith) in (
+      omega arith,
+      length-set o i x ∙ l .loop .inv .1,
+      step g off (pixels (now (a .valid-mask)) (now (a .db))) o i x (omega arith) (omega arith) (c .pixel-u16 .ensures ∙ ap g (pixels-at (now (a .valid-mask)) (now (a .db)) i (omega arith) (omega arith))) (l .loop .inv .2),
+    )
+
+same-length : tie.Need-same-length Inv-loop μ-loop
+same-length c = omega arith
+
+returns : tie.Need-returns Inv-loop μ-loop
+returns c =
+    let l = c .before in
+    let a = l .before .before .before .before .args in
+    let e = pixels-length (now (a .valid-mask)) (now (a .db)) (omega arith) in
+    finish (paint full16 (a .low) (a .high) (a .range)) off (pixels (now (a .valid-mask)) (now (a .db))) (l .loop .out) (l .loop .i) (omega arith, omega arith, l .loop .inv .2) (c .loop-test .left)
+
+pub paint-u16-spec : {M : Type 1} → statement M
+paint-u16-spec = tie.close (tie.spec Inv-loop μ-loop loop-holds mul-pixel-u16 shared-slice-read-pixel-u16 shared-slice-read-pixel-u16-2 pixel-u16-requires mul-out slice-write-out add-i loop-less loop-again same-length returns)

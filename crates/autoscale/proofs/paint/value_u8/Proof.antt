@@ -1,0 +1,28 @@
+-- `autoscale::paint::value_u8` meets its contract. Assumes nothing.
+use mathlib.Core.Path.{ap}
+use native.Mathlib.Omega.{arith}
+use lib.Ieee.{binary64, mul, toUnsigned}
+use Rattle.spec.specs.Value.{full8, valueOf}
+use Rattle.autoscale.proofs.Painting.{small8, cut8}
+use borrow.Author.Needs.{needs}
+use Rattle.autoscale.proofs.paint.value_u8.Statement.{statement}
+use Rattle.autoscale.proofs.paint.value_u8.Tie as tie
+
+normalized-requires : tie.Need-normalized-requires
+normalized-requires c κs = search needs
+
+clamp-f64-requires : tie.Need-clamp-f64-requires
+clamp-f64-requires c κs = search needs
+
+trunc-small-requires : tie.Need-trunc-small-requires
+trunc-small-requires c κs = rw (c .clamp-f64 .ensures) (small8 _)
+
+cast-result : tie.Need-cast-result
+cast-result c = omega (arith, c .trunc-small .ensures, ap (toUnsigned 64) (c .before .clamp-f64 .ensures), cut8 (mul binary64 (c .before .before .normalized .result) full8))
+
+returns : tie.Need-returns
+unfolding valueOf
+returns c = cc
+
+pub value-u8-spec : {M : Type 1} → statement M
+value-u8-spec = tie.close (tie.spec normalized-requires clamp-f64-requires trunc-small-requires cast-result returns)

@@ -1,0 +1,77 @@
+// The painting of valid pixels between the ends of a window, outside Clahe, each float step in the source's order.
+use stretch::Ends;
+ghost use mathlib.Core.Path.{_≡_};
+ghost use mathlib.Core.List.{map};
+ghost use lib.ListN.{length};
+ghost use Rattle.spec.specs.Lists.{lowest, highest};
+ghost use Rattle.spec.specs.Pixels.{pixel, pixels};
+ghost use Rattle.spec.specs.Value.{full8, full16, normalised, valueOf, paint};
+
+// Held to low..high, minus low, over range.
+pub fn normalized(v: f64, low: f64, high: f64, range: f64) -> f64
+    ensures { λ r. ⌜ r ≡ normalised low high range v ⌝ }
+{
+    (numeric::clamp_f64(v, low, high) - low) / range
+}
+
+// Times 255, held to 0..255, truncated.
+pub fn value_u8(v: f64, low: f64, high: f64, range: f64) -> u8
+    ensures { λ r. ⌜ r ≡ valueOf full8 low high range v ⌝ }
+{
+    let x = normalized(v, low, high, range) * 255.0;
+    numeric::trunc_small(numeric::clamp_f64(x, 0.0, 255.0)) as u8
+}
+
+// Times 65535, held to 0..65535, truncated.
+pub fn value_u16(v: f64, low: f64, high: f64, range: f64) -> u16
+    ensures { λ r. ⌜ r ≡ valueOf full16 low high range v ⌝ }
+{
+    let x = normalized(v, low, high, range) * 65535.0;
+    numeric::trunc_small(numeric::clamp_f64(x, 0.0, 65535.0)) as u16
+}
+
+// A pixel with its mark: 0 where it is invalid. The value is worked out either way, so that no branch stands in the loops below.
+fn pixel_u8(v: f64, mark: u8, low: f64, high: f64, range: f64) -> u8
+    ensures { λ r. ⌜ r ≡ paint full8 low high range (pixel mark v) ⌝ }
+{
+    let x = value_u8(v, low, high, range);
+    if mark == 0 { 0 } else { x }
+}
+
+fn pixel_u16(v: f64, mark: u8, low: f64, high: f64, range: f64) -> u16
+    ensures { λ r. ⌜ r ≡ paint full16 low high range (pixel mark v) ⌝ }
+{
+    let x = value_u16(v, low, high, range);
+    if mark == 0 { 0 } else { x }
+}
+
+// A band at 8 bits, with the least and the greatest of the bytes.
+pub fn paint_u8(db: &[f64], valid_mask: &[u8], low: f64, high: f64, range: f64, out: &mut [u8]) -> Ends
+    requires { ⌜ length (now db) ≡ length (now out) ⌝ ∗ ⌜ length (now «valid_mask») ≡ length (now out) ⌝ }
+    ensures { λ r. ⌜ now (out .exit) ≡ map (paint full8 low high range) (pixels (now («valid_mask» .entry)) (now (db .entry))) ⌝ }
+    ensures { λ r. ⌜ (r .lo ≡ lowest 65535 (now (out .exit))) × (r .hi ≡ highest 0 (now (out .exit))) ⌝ }
+{
+    let mut lo: u16 = 65535;
+    let mut hi: u16 = 0;
+    let mut i = 0;
+    while i < out.len() {
+        let x = pixel_u8(db[i], valid_mask[i], low, high, range);
+        out[i] = x;
+        lo = stretch::min_u16(lo, x as u16);
+        hi = stretch::max_u16(hi, x as u16);
+        i += 1;
+    }
+    Ends { lo, hi }
+}
+
+// A band at 16 bits.
+pub fn paint_u16(db: &[f64], valid_mask: &[u8], low: f64, high: f64, range: f64, out: &mut [u16])
+    requires { ⌜ length (now db) ≡ length (now out) ⌝ ∗ ⌜ length (now «valid_mask») ≡ length (now out) ⌝ }
+    ensures { λ _. ⌜ now (out .exit) ≡ map (paint full16 low high range) (pixels (now («valid_mask» .entry)) (now (db .entry))) ⌝ }
+{
+    let mut i = 0;
+    while i < out.len() {
+        out[i] = pixel_u16(db[i], valid_mask[i], low, high, range);
+        i += 1;
+    }
+}

@@ -1,0 +1,68 @@
+-- Parts of lists that are made element by element. Assumes nothing.
+use mathlib.Core.Path.{_≡_, refl, sym, ap, subst, _∙_}
+use mathlib.Core.List.{List, [], _∷_, map, zipWith}
+use Prim.Native.Nat.{ℕ, zero, suc, _+_, _-_, _*_, _≤_, _<_, zero-le, suc-le-suc}
+use native.Mathlib.Nat.{suc-inj, le-of-suc-le-suc, not-suc-le-zero}
+use lib.Ieee.{Float}
+use lib.ListN.{length, getD, take, drop}
+use Rattle.spec.specs.Pixels.{Pixel, pixel, pixels}
+use Rattle.spec.specs.Grey.{normalPixel}
+use Rattle.clahe.specs.Band.{band}
+
+module _ {A : Type 0} {B : Type 0} (f : A → B) where
+  pub map-take : (n : ℕ) (xs : List A) → map f (take n xs) ≡ take n (map f xs)
+  map-take zero xs = refl
+  map-take (suc n) [] = refl
+  map-take (suc n) (x ∷ xs) = ap (λ (l : List B). f x ∷ l) (map-take n xs)
+
+  pub map-drop : (n : ℕ) (xs : List A) → map f (drop n xs) ≡ drop n (map f xs)
+  map-drop zero xs = refl
+  map-drop (suc n) [] = refl
+  map-drop (suc n) (x ∷ xs) = map-drop n xs
+
+module _ {A : Type 0} {B : Type 0} {C : Type 0} (f : A → B → C) where
+  pub zip-take : (n : ℕ) (xs : List A) (ys : List B) → zipWith f (take n xs) (take n ys) ≡ take n (zipWith f xs ys)
+  unfolding zipWith
+  zip-take zero xs ys = refl
+  zip-take (suc n) [] ys = refl
+  zip-take (suc n) (x ∷ xs) [] = refl
+  zip-take (suc n) (x ∷ xs) (y ∷ ys) = ap (λ (l : List C). f x y ∷ l) (zip-take n xs ys)
+
+  zip-none : (xs : List A) → zipWith f xs [] ≡ []
+  unfolding zipWith
+  zip-none [] = refl
+  zip-none (x ∷ xs) = refl
+
+  pub zip-drop : (n : ℕ) (xs : List A) (ys : List B) → zipWith f (drop n xs) (drop n ys) ≡ drop n (zipWith f xs ys)
+  unfolding zipWith
+  zip-drop zero xs ys = refl
+  zip-drop (suc n) [] ys = refl
+  zip-drop (suc n) (x ∷ xs) [] = zip-none (drop n xs)
+  zip-drop (suc n) (x ∷ xs) (y ∷ ys) = zip-drop n xs ys
+
+  pub zip-length : (xs : List A) (ys : List B) → length xs ≡ length ys → length (zipWith f xs ys) ≡ length ys
+  unfolding zipWith
+  zip-length [] [] e = refl
+  zip-length [] (y ∷ ys) e = e
+  zip-length (x ∷ xs) [] e = refl
+  zip-length (x ∷ xs) (y ∷ ys) e = ap suc (zip-length xs ys (suc-inj e))
+
+  pub zip-at : (a : A) (b : B) (c : C) (xs : List A) (ys : List B) (k : ℕ) → k < length xs → k < length ys → getD (zipWith f xs ys) k c ≡ f (getD xs k a) (getD ys k b)
+  unfolding zipWith
+  zip-at a b c [] ys k g h = absurd (not-suc-le-zero g)
+  zip-at a b c (x ∷ xs) [] k g h = absurd (not-suc-le-zero h)
+  zip-at a b c (x ∷ xs) (y ∷ ys) zero g h = refl
+  zip-at a b c (x ∷ xs) (y ∷ ys) (suc k) g h = zip-at a b c xs ys k (le-of-suc-le-suc g) (le-of-suc-le-suc h)
+
+-- a part of a band is the band of the parts
+pub band-part : (low high range : Float) (marks : List ℕ) (db : List Float) (a n : ℕ)
+    → band low high range (take n (drop a marks)) (take n (drop a db)) ≡ take n (drop a (band low high range marks db))
+unfolding pixels
+band-part low high range marks db a n =
+    ap (map (normalPixel low high range)) (zip-take pixel n (drop a marks) (drop a db) ∙ ap (take n) (zip-drop pixel a marks db))
+    ∙ map-take (normalPixel low high range) n (drop a (pixels marks db)) ∙ ap (take n) (map-drop (normalPixel low high range) a (pixels marks db))
+
+pub band-between : (low high range : Float) (marks : List ℕ) (db : List Float) (a e n : ℕ) → e - a ≡ n
+    → band low high range (take (e - a) (drop a marks)) (take (e - a) (drop a db)) ≡ take n (drop a (band low high range marks db))
+band-between low high range marks db a e n p =
+    ap (λ (m : ℕ). band low high range (take m (drop a marks)) (take m (drop a db))) p ∙ band-part low high range marks db a n

@@ -1,0 +1,77 @@
+-- The levels of a row or of a part of a band, one pixel after another, and the counts that they are added to. Assumes nothing.
+use mathlib.Core.Path.{_≡_, refl, sym, ap, subst, _∙_}
+use mathlib.Core.List.{List, [], _∷_, _++_, map, zipWith, map-append}
+use Prim.Native.Nat.{ℕ, zero, suc, _+_, _-_, _*_, _≤_, _<_, zero-le}
+use native.Mathlib.Nat.{le-of-suc-le-suc, not-suc-le-zero}
+use native.Mathlib.Numerals.{add-one}
+use native.Mathlib.Omega.{arith}
+use lib.Ieee.{Float}
+use lib.ListN.{length, getD, set, take, drop}
+use lib.Seq.{drop-cons, drop-length}
+use Rattle.spec.specs.Lists.{added, stored}
+use Rattle.spec.specs.Pixels.{Pixel, off, on, pixel, pixels, validOf}
+use Rattle.spec.specs.Grey.{normalPixel}
+use Rattle.spec.specs.Value.{normalised}
+use Rattle.spec.specs.Clahe.{levelOf}
+use Rattle.clahe.specs.Band.{band, levels}
+
+pub pixel-on : (m : ℕ) (v : Float) → (m ≡ 0 → ⊥) → pixel m v ≡ on v
+unfolding pixel
+pixel-on zero v h = absurd (h refl)
+pixel-on (suc m) v h = refl
+
+pub pixel-off : (m : ℕ) (v : Float) → m ≡ 0 → pixel m v ≡ off
+unfolding pixel
+pixel-off zero v h = refl
+pixel-off (suc m) v h = absurd (omega arith)
+
+-- ---- counts
+
+-- no count is above m
+abbrev pub Most : ℕ → List ℕ → Type 0
+Most m h = (k : ℕ) → getD h k 0 ≤ m
+
+set-most : (h : List ℕ) (b x m : ℕ) → x ≤ m → Most m h → Most m (set h b x)
+set-most [] b x m l f k = f k
+set-most (y ∷ ys) zero x m l f zero = l
+set-most (y ∷ ys) zero x m l f (suc k) = f (suc k)
+set-most (y ∷ ys) (suc b) x m l f zero = f zero
+set-most (y ∷ ys) (suc b) x m l f (suc k) = set-most ys b x m l (λ j. f (suc j)) k
+
+pub added-most : (h : List ℕ) (b m : ℕ) → Most m h → Most (m + 1) (added b h)
+added-most h b m f = set-most h b (getD h b 0 + 1) (m + 1) (omega (arith, f b)) (λ j. omega (arith, f j))
+
+pub stored-most : (h xs : List ℕ) (m : ℕ) → Most m h → Most (m + length xs) (stored h xs)
+unfolding stored
+stored-most h [] m f k = omega (arith, f k)
+stored-most h (x ∷ xs) m f k = omega (arith, stored-most (added x h) xs (m + 1) (added-most h x m f) k)
+
+pub stored-append : (h xs ys : List ℕ) → stored h (xs ++ ys) ≡ stored (stored h xs) ys
+unfolding stored
+stored-append h [] ys = refl
+stored-append h (x ∷ xs) ys = stored-append (added x h) xs ys
+
+-- ---- one pixel after another
+
+module _ (low high range : Float) (marks : List ℕ) (db : List Float) (h : List ℕ) (i : ℕ) where
+  abbrev Left : List ℕ → ℕ → List ℕ
+  Left g j = stored g (levels (band low high range (drop j marks) (drop j db)))
+
+  pub row-end : length db ≤ i → length marks ≤ i → Left h i ≡ h
+  unfolding stored pixels zipWith validOf
+  row-end a b = rw (drop-of db i a, drop-of marks i b)
+    where
+      drop-of : {A : Type 0} (xs : List A) (j : ℕ) → length xs ≤ j → drop j xs ≡ []
+      drop-of [] zero l = refl
+      drop-of [] (suc j) l = refl
+      drop-of (x ∷ xs) zero l = absurd (not-suc-le-zero l)
+      drop-of (x ∷ xs) (suc j) l = drop-of xs j (le-of-suc-le-suc l)
+
+  module _ (d : Float) (a : i < length db) (b : i < length marks) where
+    pub row-on : (getD marks i 0 ≡ 0 → ⊥) → Left h i ≡ Left (added (levelOf (normalised low high range (getD db i d))) h) (i + 1)
+    unfolding stored pixels zipWith validOf normalPixel
+    row-on e = rw (add-one i, drop-cons db i d, drop-cons marks i 0, pixel-on (getD marks i 0) (getD db i d) e)
+
+    pub row-off : getD marks i 0 ≡ 0 → Left h i ≡ Left h (i + 1)
+    unfolding stored pixels zipWith validOf normalPixel
+    row-off e = rw (add-one i, drop-cons db i d, drop-cons marks i 0, pixel-off (getD marks i 0) (getD db i d) e)

@@ -1,0 +1,136 @@
+use Rattle.spec.specs.Clahe.{levelOf}
+use borrow.Author.Needs.{needs}
+use Rattle.clahe.proofs.Rows.{Most, added-most, row-end, row-on, row-off}
+use Rattle.clahe.specs.Band.{band, levels}
+use Rattle.spec.specs.Lists.{added, stored}
+use lib.ListN.{length, drop, getD, length-set}
+use lib.Ieee.{nan}
+use native.Mathlib.Omega.{arith}
+use Prim.Native.Nat.{ℕ, _+_, _-_, _≤_, _<_}
+use mathlib.Core.List.{List}
+use mathlib.Core.Logic.{⊎-elim}
+use mathlib.Core.Path.{_≡_, refl, sym, ap, _∙_}
+use Rattle.clahe.proofs.counts.count_row.Statement.{statement}
+use Rattle.clahe.proofs.counts.count_row.Tie as tie
+use Rattle.clahe.proofs.counts.count_row.Reads as reads
+use Rattle.clahe.proofs.counts.count_row.Lts as lts
+use Rattle.clahe.proofs.counts.level_of.Reads as level-of-reads
+use Rattle.clahe.proofs.counts.normalised.Reads as normalised-reads
+
+abbrev Inv-loop : tie.InvT-loop
+Inv-loop db valid-mask low high range hist₀ i₀ hist i =
+    (i ≤ length db) × (length hist ≡ 256) × Most (16777216 + i) hist
+    × (stored hist₀ (levels (band low high range valid-mask db)) ≡ stored hist (levels (band low high range (drop i valid-mask) (drop i db))))
+
+abbrev μ-loop : tie.MeasureT-loop
+μ-loop db valid-mask low high range hist₀ i₀ hist i = length db - i
+
+-- src/counts.rt:33:5
+loop-holds : tie.Need-loop-holds Inv-loop μ-loop
+loop-holds c =
+    let s = c .before .before .before in
+    (omega arith, omega arith, λ k. omega (arith, s .pre .1 .1 k), refl)
+
+-- src/counts.rt:34:12
+shared-slice-read-if1 : tie.Need-shared-slice-read-if1 Inv-loop μ-loop
+shared-slice-read-if1 c = search needs
+
+-- src/counts.rt:35:41
+mul-normalised : tie.Need-mul-normalised Inv-loop μ-loop
+mul-normalised c = search needs
+
+-- src/counts.rt:35:41
+shared-slice-read-normalised : tie.Need-shared-slice-read-normalised Inv-loop μ-loop
+shared-slice-read-normalised c = search needs
+
+-- src/counts.rt:35:30
+normalised-requires : tie.Need-normalised-requires Inv-loop μ-loop
+normalised-requires c κs = search needs
+
+-- src/counts.rt:35:17
+level-of-requires : tie.Need-level-of-requires Inv-loop μ-loop
+level-of-requires c κs = search needs
+
+-- src/counts.rt:36:21
+mul-n : tie.Need-mul-n Inv-loop μ-loop
+mul-n c = search needs
+
+-- src/counts.rt:36:21
+slice-read-n : tie.Need-slice-read-n Inv-loop μ-loop
+slice-read-n c = search needs
+
+-- src/counts.rt:37:23
+add-hist : tie.Need-add-hist Inv-loop μ-loop
+add-hist c =
+    let l = c .before .before .before .before .before .before .before in
+    omega (arith, l .loop .inv .2 (c .before .level-of .result))
+
+-- src/counts.rt:37:13
+mul-hist : tie.Need-mul-hist Inv-loop μ-loop
+mul-hist c = search needs
+
+-- src/counts.rt:37:13
+slice-write-hist : tie.Need-slice-write-hist Inv-loop μ-loop
+slice-write-hist c = search needs
+
+-- src/counts.rt:39:9
+add-i : tie.Need-add-i Inv-loop μ-loop
+add-i c = search needs
+
+-- src/counts.rt:33:5
+loop-less : tie.Need-loop-less Inv-loop μ-loop
+loop-less c = search needs
+
+-- src/counts.rt:33:5
+loop-again : tie.Need-loop-again Inv-loop μ-loop
+loop-again c =
+    let l = c .before .before .before in
+    let a = l .before .before .before .before .args in
+    let i = l .loop .i in
+    let h = l .loop .hist in
+    ⊎-elim
+    (λ w.
+      rw (w .5)
+      (omega arith, simp length-set (omega arith), (λ k. omega (arith, added-most h (w .3 .result) (16777216 + i) (l .loop .inv .2) k)),
+       l .loop .inv .3 ∙ row-on (a .low) (a .high) (a .range) (a .valid-mask .now) (a .db .now) h i nan (omega arith) (omega arith) (w .0 .taken)
+       ∙ ap (λ (b : ℕ). stored (added b h) (levels (band (a .low) (a .high) (a .range) (drop (i + 1) (a .valid-mask .now)) (drop (i + 1) (a .db .now)))))
+         (sym (w .3 .ensures .0 ∙ ap levelOf (w .2 .ensures)))))
+    (λ w.
+      rw (w .1)
+      (omega arith, omega arith, (λ k. omega (arith, l .loop .inv .2 k)),
+       l .loop .inv .3 ∙ row-off (a .low) (a .high) (a .range) (a .valid-mask .now) (a .db .now) h i nan (omega arith) (omega arith) (w .0 .left)))
+    (c .if1 .came)
+
+-- src/counts.rt:27:1
+same-length : tie.Need-same-length Inv-loop μ-loop
+same-length c = search needs
+
+-- src/counts.rt:27:1
+returns : tie.Need-returns Inv-loop μ-loop
+returns c =
+    let l = c .before in
+    let a = l .before .before .before .before .args in
+    sym (l .loop .inv .3 ∙ row-end (a .low) (a .high) (a .range) (a .valid-mask .now) (a .db .now) (l .loop .hist) (l .loop .i) (omega arith) (omega arith))
+
+pub count-row-spec : {M : Type 1} → statement M
+count-row-spec =
+    tie.close
+    (tie.spec
+    Inv-loop
+    μ-loop
+    loop-holds
+    shared-slice-read-if1
+    mul-normalised
+    shared-slice-read-normalised
+    normalised-requires
+    level-of-requires
+    mul-n
+    slice-read-n
+    add-hist
+    mul-hist
+    slice-write-hist
+    add-i
+    loop-less
+    loop-again
+    same-length
+    returns)

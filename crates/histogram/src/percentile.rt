@@ -1,0 +1,64 @@
+// A percentile: the first bin whose running count exceeds the target, and the value at the target's rank in it.
+ghost use mathlib.Core.Path.{_≡_};
+ghost use Prim.Native.Nat.{_<_, _^_};
+ghost use lib.ListN.{length};
+ghost use Rattle.spec.specs.Percentile.{target, seek, valueAt, percentile};
+use types::BinRank;
+use types::Percentile;
+
+// "target = floor(p × count), at most count - 1"; 0 for no value.
+pub fn target_of(p: f64, count: u32) -> u64
+    ensures { λ r. ⌜ r ≡ target p count ⌝ }
+{
+    let place = numeric::f64_as_u64(p * (count as f64));
+    if count == 0 {
+        return 0;
+    }
+    let last = (count - 1) as u64;
+    if place < last { place } else { last }
+}
+
+// "take the first bin whose running count exceeds the target": the last bin if none does.
+pub fn find_bin(hist: &[u32], target: u64) -> BinRank
+    requires { ⌜ (length (now hist) ≡ 4096) × (target < 2 ^ 32) ⌝ }
+    ensures { λ r. ⌜ r ≡ seek target 0 0 (now (hist .entry)) ⌝ }
+{
+    let mut bin: usize = 0;
+    let mut before: u64 = 0;
+    let found = loop {
+        let size = hist[bin];
+        let next = before + (size as u64);
+        if target < next {
+            break BinRank { bin: bin, size: size, rank: target - before };
+        }
+        if bin == 4095 {
+            break BinRank { bin: bin, size: size, rank: target - before };
+        }
+        before = next;
+        bin += 1;
+    };
+    found
+}
+
+// "the value is (min + bin × width) + (w/h) × width".
+pub fn value_at(min_db: f64, bin_width: f64, found: BinRank) -> f64
+    requires { ⌜ (found .bin < 2 ^ 32) × (found .rank < 2 ^ 32) ⌝ }
+    ensures { λ r. ⌜ r ≡ valueAt «min_db» «bin_width» found ⌝ }
+{
+    let bin = found.bin as u32;
+    let within = found.rank as u32;
+    let size = found.size;
+    let bin_start = min_db + (bin as f64) * bin_width;
+    let frac = (within as f64) / (size as f64);
+    bin_start + frac * bin_width
+}
+
+// The percentile of fraction p from count values in the bins.
+pub fn estimate_percentile(hist: &[u32], min_db: f64, bin_width: f64, count: u32, p: f64) -> Percentile
+    requires { ⌜ length (now hist) ≡ 4096 ⌝ }
+    ensures { λ r. ⌜ r ≡ percentile «min_db» «bin_width» count (now (hist .entry)) p ⌝ }
+{
+    let target = target_of(p, count);
+    let found = find_bin(hist, target);
+    Percentile { value: value_at(min_db, bin_width, found) }
+}

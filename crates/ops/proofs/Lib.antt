@@ -1,0 +1,3 @@
+pub mod ListsZip
+pub mod Lengths
+pub mod LogRatio

@@ -1,0 +1,15 @@
+-- "log ratio (the same as ratio)". Assumes nothing.
+use mathlib.Core.Path.{_≡_, refl}
+use mathlib.Core.List.{List}
+use Prim.Native.Nat.{ℕ}
+use lib.Ieee.{Float}
+use Rattle.spec.specs.Ops.{ratioOp, logRatioOp, opCall}
+
+pub log-ratio-op : logRatioOp ≡ ratioOp
+unfolding logRatioOp ratioOp
+log-ratio-op = refl
+
+-- the whole call: reply and list
+pub log-ratio-is-ratio : (a b : List Float) (out : ℕ) → opCall logRatioOp a b out ≡ opCall ratioOp a b out
+unfolding logRatioOp ratioOp
+log-ratio-is-ratio a b out = refl

@@ -1,0 +1,184 @@
+/* The header and the archive from C: every call on a sample of document 01 and on damaged input. Built with AddressSanitizer by
+ * tests/run, so that a write outside a lent list ends the run. The last line is 'N passed, M failed'. */
+#include "quicklook.h"
+
+#include <math.h>
+#include <stdio.h>
+#include <stdlib.h>
+#include <string.h>
+
+static int passed, failed;
+
+static void check(int right, const char *what) {
+    if (right) {
+        passed++;
+    } else {
+        failed++;
+        printf("failed: %s\n", what);
+    }
+}
+
+/* A list on the heap of just its length, so that AddressSanitizer sees one element too many. */
+static void *lent(size_t count, size_t width, int fill) {
+    unsigned char *list = malloc(count * width > 0 ? count * width : 1);
+    memset(list, fill, count * width);
+    return list;
+}
+
+static int all(const void *list, size_t bytes, int fill) {
+    const unsigned char *p = list;
+    for (size_t i = 0; i < bytes; i++) {
+        if (p[i] != fill) return 0;
+    }
+    return 1;
+}
+
+static float from_bits(uint32_t bits) {
+    float value;
+    memcpy(&value, &bits, sizeof value);
+    return value;
+}
+
+static void marks(void) {
+    float values[5] = {from_bits(0x3727c5acu), from_bits(0x3727c5adu), NAN, INFINITY, -1.0f};
+    uint8_t *out = lent(5, 1, 9);
+    check(quicklook_marks(values, 5, out, 5) == 0 && !memcmp(out, "\0\1\0\1\0", 5), "marks");
+    memset(out, 9, 5);
+    check(quicklook_marks(values, 4, out, 5) == 2 && all(out, 5, 9), "marks of unequal lists");
+    check(quicklook_marks(values, 0, out, 0) == 0 && all(out, 5, 9), "marks of an empty list");
+    free(out);
+}
+
+static void statistics(void) {
+    double db[2] = {0.0, 10.0}, floats[15];
+    uint8_t mask[2] = {1, 1};
+    uint64_t count = 7;
+    check(quicklook_statistics(1, 2, db, 2, mask, 2, &count, floats) == 0 && count == 2 && floats[0] == 0.0 && floats[1] == 10.0 && floats[7] == 0.0 &&
+              floats[12] == 9.99755859375,
+          "statistics of 0, 10");
+    struct { size_t rows, cols, db, mask; int number; const char *what; } bad[] = {
+        {4097, 0, 0, 0, 1, "a side above 4,096"}, {0, SIZE_MAX, 0, 0, 1, "a side of SIZE_MAX"}, {1, 2, 1, 2, 2, "one dB short"}, {1, 2, 2, 1, 2, "one mark short"}};
+    for (size_t i = 0; i < sizeof bad / sizeof *bad; i++) {
+        count = 7;
+        memset(floats, 0x55, sizeof floats);
+        int number = quicklook_statistics(bad[i].rows, bad[i].cols, db, bad[i].db, mask, bad[i].mask, &count, floats);
+        check(number == bad[i].number && count == 7 && all(floats, sizeof floats, 0x55), bad[i].what);
+    }
+    mask[1] = 2;
+    db[0] = NAN;
+    memset(floats, 0x55, sizeof floats);
+    check(quicklook_statistics(1, 2, db, 2, mask, 2, &count, floats) == 3 && count == 7 && all(floats, sizeof floats, 0x55), "a mark of 2 before a NaN");
+    mask[1] = 1;
+    check(quicklook_statistics(1, 2, db, 2, mask, 2, &count, floats) == 4, "a valid NaN");
+    mask[0] = 0;
+    check(quicklook_statistics(1, 2, db, 2, mask, 2, &count, floats) == 0 && count == 1 && floats[0] == 10.0, "a NaN under a 0 mark");
+    mask[1] = 0;
+    check(quicklook_statistics(1, 2, db, 2, mask, 2, &count, floats) == 0 && count == 0 && floats[0] == 0.0 && floats[14] == 0.0, "no valid pixel");
+}
+
+static void window(void) {
+    double db[2] = {0.0, 10.0}, floats[4];
+    uint8_t mask[2] = {1, 1}, blank = 9;
+    check(quicklook_window(QUICKLOOK_DEFAULT, 1, 2, db, 2, mask, 2, &blank, floats) == 0 && blank == 0 && floats[0] == 0.0 && floats[1] == 9.99755859375 &&
+              floats[2] == 9.99755859375 && floats[3] == 1.0,
+          "window of 0, 10");
+    check(quicklook_window(QUICKLOOK_STANDARD, 1, 2, db, 2, mask, 2, &blank, floats) == 0 && floats[3] == 1.1, "a window of another gamma is an answer");
+    memset(mask, 0, 2);
+    check(quicklook_window(QUICKLOOK_DEFAULT, 1, 2, db, 2, mask, 2, &blank, floats) == 0 && blank == 1 && floats[0] == 0.0 && floats[3] == 0.0, "a blank window");
+    blank = 9;
+    memset(floats, 0x55, sizeof floats);
+    check(quicklook_window(7, 1, 2, db, 2, mask, 2, &blank, floats) == 255 && blank == 9 && all(floats, sizeof floats, 0x55), "a strategy that names nothing");
+}
+
+static void grey(void) {
+    double db[2] = {0.0, 0.5};
+    uint8_t mask[2] = {1, 1};
+    uint8_t *out8 = lent(2, 1, 9);
+    uint16_t *out16 = lent(2, 2, 9);
+    double *work = lent(0, 8, 0);
+    check(quicklook_grey_u8(QUICKLOOK_DEFAULT, 1, 2, db, 2, mask, 2, out8, 2, work, 0) == 0 && out8[0] == 0 && out8[1] == 255, "grey 8 of 0, 0.5");
+    check(quicklook_grey_u16(QUICKLOOK_DEFAULT, 1, 2, db, 2, mask, 2, out16, 2, work, 0) == 0 && out16[0] == 0 && out16[1] == 32759, "grey 16 of 0, 0.5");
+    memset(out8, 9, 2);
+    db[1] = 14.0;
+    check(quicklook_grey_u8(QUICKLOOK_STANDARD, 1, 2, db, 2, mask, 2, out8, 2, work, 0) == 6 && all(out8, 2, 9), "Standard of 0, 14");
+    db[1] = 15.0;
+    check(quicklook_grey_u8(QUICKLOOK_STANDARD, 1, 2, db, 2, mask, 2, out8, 2, work, 0) == 0, "Standard of 0, 15");
+    memset(out8, 9, 2);
+    check(quicklook_grey_u8(QUICKLOOK_CLAHE, 1, 2, db, 2, mask, 2, out8, 2, work, 0) == 2 && all(out8, 2, 9), "Clahe without its work");
+    double *tiles = lent(QUICKLOOK_CLAHE_WORK, 8, 0x55);
+    check(quicklook_grey_u8(QUICKLOOK_CLAHE, 1, 2, db, 2, mask, 2, out8, 2, tiles, QUICKLOOK_CLAHE_WORK) == 5 && all(out8, 2, 9) &&
+              all(tiles, QUICKLOOK_CLAHE_WORK * 8, 0x55),
+          "Clahe on a side of 1");
+    memset(mask, 0, 2);
+    check(quicklook_grey_u8(QUICKLOOK_CLAHE, 1, 2, db, 2, mask, 2, out8, 2, tiles, QUICKLOOK_CLAHE_WORK) == 0 && out8[0] == 0 && out8[1] == 0, "a blank band");
+    double *scene = lent(49, 8, 0);
+    uint8_t *valid = lent(49, 1, 1), *greys = lent(49, 1, 9);
+    for (int i = 0; i < 49; i++) scene[i] = i * 0.5;
+    check(quicklook_grey_u8(QUICKLOOK_CLAHE, 7, 7, scene, 49, valid, 49, greys, 49, tiles, QUICKLOOK_CLAHE_WORK) == 0, "Clahe on 7 by 7");
+    free(out8), free(out16), free(work), free(tiles), free(scene), free(valid), free(greys);
+}
+
+static void picture(void) {
+    double db[2] = {0.0, 10.0};
+    uint8_t mask[2] = {1, 1};
+    uint8_t *grey1 = lent(2, 1, 9), *grey2 = lent(2, 1, 9), *rgb = lent(6, 1, 9);
+    double *work = lent(3, 8, 0x55);
+    check(quicklook_picture(QUICKLOOK_DEFAULT, QUICKLOOK_MODE_ENHANCED, 1, 2, db, 2, mask, 2, db, 2, mask, 2, grey1, 2, grey2, 2, rgb, 6, work, 3) == 0 &&
+              !memcmp(grey1, "\0\377", 2) && !memcmp(grey2, "\0\377", 2) && !memcmp(rgb, "\0\0\0\377\377\75", 6) && all(work, 24, 0x55),
+          "picture of 0, 10");
+    memset(grey1, 9, 2), memset(grey2, 9, 2), memset(rgb, 9, 6);
+    check(quicklook_picture(QUICKLOOK_DEFAULT, 4, 1, 2, db, 2, mask, 2, db, 2, mask, 2, grey1, 2, grey2, 2, rgb, 6, work, 3) == 255 && all(rgb, 6, 9), "a mode that names nothing");
+    check(quicklook_picture(QUICKLOOK_DEFAULT, 0, 1, 2, db, 2, mask, 2, db, 2, mask, 2, grey1, 2, grey2, 2, rgb, 5, work, 3) == 2 && all(rgb, 6, 9) && all(grey1, 2, 9),
+          "colours that are too short");
+    check(quicklook_picture(QUICKLOOK_STANDARD, 0, 1, 2, db, 2, mask, 2, db, 2, mask, 2, grey1, 2, grey2, 2, rgb, 6, work, 3) == 6 && all(rgb, 6, 9) && all(grey2, 2, 9),
+          "Standard's gamma 1.1");
+    free(grey1), free(grey2), free(rgb), free(work);
+}
+
+static void beside(void) {
+    uint16_t three[3] = {0, 1, 2}, seven[3] = {7, 7, 7};
+    uint8_t *out = lent(3, 1, 9);
+    check(quicklook_stretch(three, 3, out, 3) == 0 && !memcmp(out, "\0\200\377", 3), "stretch of 0, 1, 2");
+    check(quicklook_stretch(seven, 3, out, 3) == 0 && all(out, 3, 0), "stretch of 7, 7, 7");
+    memset(out, 9, 3);
+    check(quicklook_stretch(three, 2, out, 3) == 2 && all(out, 3, 9), "stretch of unequal lists");
+
+    uint8_t full = 255, one = 1, three8 = 3;
+    check(quicklook_compose(0, QUICKLOOK_DEFAULT, &full, 1, &one, 1, out, 3) == 0 && !memcmp(out, "\377\2\143", 3), "default (255, 1)");
+    check(quicklook_compose(3, QUICKLOOK_TAMED, &three8, 1, &full, 1, out, 3) == 0 && !memcmp(out, "\0\377\40", 3), "suppressed (3, 255)");
+    memset(out, 9, 3);
+    check(quicklook_compose(0, 9, &full, 1, &one, 1, out, 3) == 255 && all(out, 3, 9), "composition of no strategy");
+    check(quicklook_compose(0, 0, &full, 1, &one, 0, out, 3) == 2 && all(out, 3, 9), "composition of unequal bands");
+
+    uint8_t pair8[2] = {1, 2}, *square8 = lent(4, 1, 9);
+    uint16_t pair16[2] = {1, 2}, *square16 = lent(4, 2, 9);
+    check(quicklook_pad_u8(1, 2, pair8, 2, square8, 4) == 0 && !memcmp(square8, "\1\2\0\0", 4), "pad 1 row 1, 2");
+    check(quicklook_pad_u16(1, 2, pair16, 2, square16, 4) == 0 && square16[0] == 1 && square16[1] == 2 && square16[2] == 0 && square16[3] == 0, "pad at 16 bits");
+    memset(square8, 9, 4), memset(square16, 9, 8);
+    check(quicklook_pad_u8(1, 2, pair8, 2, square8, 3) == 2 && all(square8, 4, 9), "a square that is too short");
+    check(quicklook_pad_u16(4097, 1, pair16, 2, square16, 4) == 1 && all(square16, 8, 9), "padding of a side above 4,096");
+
+    float a[2] = {6.0f, 1.0f}, b[2] = {3.0f, from_bits(0x2edbe6ffu)};
+    float *result = lent(2, 4, 0x55);
+    check(quicklook_sum(a, 2, b, 2, result, 2) == 0 && result[0] == 9.0f, "sum");
+    check(quicklook_difference(a, 2, b, 2, result, 2) == 0 && result[0] == 3.0f, "difference");
+    check(quicklook_ratio(a, 2, b, 2, result, 2) == 0 && result[0] == 2.0f && result[1] == 0.0f, "ratio");
+    check(quicklook_log_ratio(a, 2, b, 2, result, 2) == 0 && result[0] == 2.0f && result[1] == 0.0f, "log ratio");
+    check(quicklook_normalized_diff(a, 2, b, 2, result, 2) == 0 && result[0] == 3.0f / 9.0f, "normalised difference");
+    memset(result, 0x55, 8);
+    check(quicklook_sum(a, 2, b, 1, result, 2) == 2 && quicklook_difference(a, 1, b, 2, result, 2) == 2 && quicklook_ratio(a, 2, b, 2, result, 1) == 2 &&
+              quicklook_log_ratio(a, 2, b, 1, result, 2) == 2 && quicklook_normalized_diff(a, 1, b, 2, result, 2) == 2 && all(result, 8, 0x55),
+          "arithmetic on unequal lists");
+    free(out), free(square8), free(square16), free(result);
+}
+
+int main(void) {
+    marks();
+    statistics();
+    window();
+    grey();
+    picture();
+    beside();
+    printf("%d passed, %d failed\n", passed, failed);
+    return failed != 0;
+}

@@ -1,0 +1,262 @@
+"""The program `quicklook` as people use it: files in and out, refusals, damaged files. Usage: host.py PATH-OF-QUICKLOOK"""
+import os
+import pathlib
+import struct
+import subprocess
+import sys
+import tempfile
+import unittest
+
+import numpy
+from PIL import Image
+
+PROGRAM = os.path.abspath(sys.argv.pop(1))
+STRATEGIES = ["standard", "robust", "adaptive", "equalized", "clahe", "tamed", "default"]
+
+
+class Case(unittest.TestCase):
+    def setUp(self):
+        self.folder = tempfile.TemporaryDirectory()
+        self.addCleanup(self.folder.cleanup)
+
+    def at(self, name):
+        return os.path.join(self.folder.name, name)
+
+    def save(self, name, array):
+        numpy.save(self.at(name), array)
+        return self.at(name)
+
+    def run_program(self, *words):
+        return subprocess.run([PROGRAM, *map(str, words)], capture_output=True, text=True, cwd=self.folder.name)
+
+    def done(self, *words):
+        result = self.run_program(*words)
+        self.assertEqual(result.returncode, 0, result.stderr)
+        self.assertEqual(result.stderr, "")
+        return result.stdout
+
+    def fails(self, status, text, *words):
+        result = self.run_program(*words)
+        self.assertEqual(result.returncode, status, result.stderr)
+        self.assertIn(text, result.stderr)
+        self.assertNotIn("panicked", result.stderr)
+        return result.stderr
+
+    def scene(self, rows=16, cols=24):
+        """Two bands with marks, as file names; random but the same each time."""
+        source = numpy.random.default_rng(rows * 1000 + cols)
+        names = []
+        for band in (1, 2):
+            names.append(self.save(f"db{band}.npy", source.uniform(-25, 0, (rows, cols))))
+            names.append(self.save(f"marks{band}.npy", (source.uniform(size=(rows, cols)) < 0.9).astype(numpy.uint8)))
+        return names
+
+
+class Samples(Case):
+    """Samples of document 01 through files."""
+
+    def test_statistics(self):
+        text = self.done("stats", self.save("db.npy", numpy.array([[0.0, 10.0]])), self.save("m.npy", numpy.ones((1, 2), numpy.uint8)))
+        found = dict(line.split() for line in text.splitlines())
+        self.assertEqual(len(found), 16)
+        self.assertEqual((found["valid"], found["p05"], found["p95"]), ("2", "0", "9.99755859375"))
+
+    def test_window(self):
+        marks = self.save("m.npy", numpy.ones((1, 2), bool))
+        text = self.done("window", self.save("db.npy", numpy.array([[0.0, 10.0]])), marks)
+        self.assertEqual(text.split(), ["low", "0", "high", "9.99755859375", "range", "9.99755859375", "gamma", "1"])
+        blank = self.save("none.npy", numpy.zeros((1, 2), bool))
+        self.assertEqual(self.done("window", self.at("db.npy"), blank), "blank\n")
+
+    def test_grey(self):
+        db = self.save("db.npy", numpy.array([[0.0, 0.5]]))
+        marks = self.save("m.npy", numpy.ones((1, 2), numpy.uint8))
+        self.done("grey", db, marks, "--depth", "16", "--out", self.at("g.png"))
+        self.assertEqual(list(Image.open(self.at("g.png")).getdata()), [0, 32759])
+        self.done("grey", db, marks, "--out", self.at("g.npy"))
+        self.assertEqual(numpy.load(self.at("g.npy")).tolist(), [[0, 255]])
+
+    def test_stretch(self):
+        self.done("stretch", self.save("g.npy", numpy.array([[0, 1, 2]], numpy.uint16)), "--out", self.at("s.npy"))
+        self.assertEqual(numpy.load(self.at("s.npy")).tolist(), [[0, 128, 255]])
+
+    def test_compose(self):
+        one, two = self.save("a.npy", numpy.array([[255, 1]], numpy.uint8)), self.save("b.npy", numpy.array([[1, 1]], numpy.uint8))
+        self.done("compose", one, two, "--mode", "rgb-ratio", "--out", self.at("c.npy"))
+        self.assertEqual(numpy.load(self.at("c.npy")).tolist(), [[[255, 2, 99], [5, 2, 67]]])
+
+    def test_pad(self):
+        self.done("pad", self.save("g.npy", numpy.array([[1, 2]], numpy.uint8)), "--out", self.at("p.npy"))
+        self.assertEqual(numpy.load(self.at("p.npy")).tolist(), [[1, 2], [0, 0]])
+        self.done("pad", self.save("w.npy", numpy.array([[1, 2]], numpy.uint16)), "--out", self.at("w.png"))
+        self.assertEqual(numpy.array(Image.open(self.at("w.png"))).tolist(), [[1, 2], [0, 0]])
+
+    def test_marks(self):
+        values = numpy.array([[0x3727C5AC, 0x3727C5AD, 0x7FC00000, 0x7F800000]], numpy.uint32).view(numpy.float32)
+        self.done("marks", self.save("i.npy", values), "--out", self.at("m.npy"))
+        self.assertEqual(numpy.load(self.at("m.npy")).tolist(), [[0, 1, 0, 1]])
+
+    def test_op(self):
+        a, b = self.save("a.npy", numpy.array([[6, 1]], numpy.float32)), self.save("b.npy", numpy.array([[3, 0]], numpy.float32))
+        expected = {"sum": [9, 1], "diff": [3, 1], "ratio": [2, 0], "n-diff": [numpy.float32(3) / numpy.float32(9), 1], "log-ratio": [2, 0]}
+        for name, result in expected.items():
+            self.done("op", name, a, b, "--out", self.at("r.npy"))
+            self.assertEqual(numpy.load(self.at("r.npy")).tolist(), [numpy.array(result, numpy.float32).tolist()], name)
+            self.done("op", name, a, b, "--out", self.at("r.tif"))
+            self.assertEqual(numpy.array(Image.open(self.at("r.tif"))).tolist(), [numpy.array(result, numpy.float32).tolist()], name)
+
+
+class Files(Case):
+    """The same bytes whatever the file type; the picture's parts agree with the single commands."""
+
+    def test_outputs_agree(self):
+        db1, marks1, db2, marks2 = self.scene()
+        for strategy in STRATEGIES:
+            if self.run_program("grey", db1, marks1, "--strategy", strategy, "--out", self.at("probe.npy")).returncode == 6:
+                continue
+            for depth in ("8", "16"):
+                for ending in ("npy", "png", "tif"):
+                    self.done("grey", db1, marks1, "--strategy", strategy, "--depth", depth, "--out", self.at(f"g{depth}.{ending}"))
+                whole = numpy.load(self.at(f"g{depth}.npy"))
+                self.assertEqual(whole.dtype, numpy.uint8 if depth == "8" else numpy.uint16)
+                for ending in ("png", "tif"):
+                    self.assertTrue((numpy.array(Image.open(self.at(f"g{depth}.{ending}"))) == whole).all(), (strategy, depth, ending))
+
+    def test_picture_parts(self):
+        db1, marks1, db2, marks2 = self.scene()
+        for strategy in ("robust", "equalized", "clahe", "default"):
+            words = ["picture", db1, marks1, db2, marks2, "--strategy", strategy, "--mode", "sar-urban"]
+            self.done(*words, "--out", self.at("c.npy"), "--grey1", self.at("g1.npy"), "--grey2", self.at("g2.npy"))
+            self.done(*words, "--out", self.at("c.png"))
+            colours = numpy.load(self.at("c.npy"))
+            self.assertEqual(colours.shape, (16, 24, 3))
+            self.assertTrue((numpy.array(Image.open(self.at("c.png"))) == colours).all())
+            for band, (db, marks) in enumerate(((db1, marks1), (db2, marks2)), 1):
+                self.done("grey", db, marks, "--strategy", strategy, "--out", self.at("one.npy"))
+                self.assertTrue((numpy.load(self.at("one.npy")) == numpy.load(self.at(f"g{band}.npy"))).all())
+            self.done("compose", self.at("g1.npy"), self.at("g2.npy"), "--strategy", strategy, "--out", self.at("again.npy"))
+            self.assertTrue((numpy.load(self.at("again.npy")) == colours).all())
+
+    def test_tiff_input(self):
+        db, marks, _, _ = self.scene()
+        single = numpy.load(db).astype(numpy.float32)
+        Image.fromarray(single).save(self.at("db.tif"))
+        self.save("wide.npy", single.astype(numpy.float64))
+        self.assertEqual(self.done("stats", self.at("db.tif"), marks), self.done("stats", self.at("wide.npy"), marks))
+        Image.fromarray(numpy.load(marks)).save(self.at("marks.png"))
+        self.assertEqual(self.done("stats", db, self.at("marks.png")), self.done("stats", db, marks))
+
+    def test_demo(self):
+        text = self.done("demo", self.at("scene"), "--side", "64")
+        self.assertIn("valid", text)
+        for name in ("default-rgb.png", "tamed-rgb.png", "clahe-rgb.png", "vv-grey16.png", "vh.npy"):
+            self.assertTrue(os.path.exists(self.at("scene/" + name)), name)
+        with Image.open(self.at("scene/default-rgb.png")) as image:
+            self.assertEqual(image.size, (64, 64))
+
+
+class Refusals(Case):
+    """A refusal exits with its number, says what it means and writes nothing."""
+
+    def refused(self, number, db, marks, *more):
+        self.save("db.npy", db)
+        self.save("m.npy", marks)
+        out = self.at("kept.npy")
+        with open(out, "wb") as file:
+            file.write(b"an earlier file")
+        self.fails(number, f"refused {number}: ", "grey", self.at("db.npy"), self.at("m.npy"), "--out", out, *more)
+        with open(out, "rb") as file:
+            self.assertEqual(file.read(), b"an earlier file")
+        self.assertEqual(sorted(os.listdir(self.folder.name)), ["db.npy", "kept.npy", "m.npy"])
+
+    def test_numbers(self):
+        ones = numpy.ones((1, 2), numpy.uint8)
+        self.refused(1, numpy.zeros((1, 4097)), numpy.ones((1, 4097), numpy.uint8))
+        self.refused(1, numpy.zeros((5000, 0)), numpy.ones((5000, 0), numpy.uint8))
+        self.refused(3, numpy.zeros((1, 2)), ones + 1)
+        self.refused(4, numpy.array([[0.0, numpy.nan]]), ones)
+        self.refused(4, numpy.array([[0.0, 1000.0000001]]), ones)
+        self.refused(5, numpy.array([[0.0, 1.0]]), ones, "--strategy", "clahe")
+        self.refused(6, numpy.array([[0.0, 14.0]]), ones, "--strategy", "standard")
+
+    def test_too_many_for_a_list(self):
+        name = self.at("long.npy")
+        header = b"{'descr': '<f4', 'fortran_order': False, 'shape': (1, 16777217), }"
+        header += b" " * (117 - len(header)) + b"\n"
+        with open(name, "wb") as file:
+            file.write(b"\x93NUMPY\x01\x00" + struct.pack("<H", len(header)) + header)
+            file.truncate(10 + len(header) + 4 * 16777217)
+        self.fails(2, "refused 2: ", "marks", name, "--out", self.at("m.npy"))
+        self.assertFalse(os.path.exists(self.at("m.npy")))
+
+
+class Damaged(Case):
+    """Files that are not what they should be: a clear message and 74, never a panic."""
+
+    def test_headers(self):
+        db, marks, _, _ = self.scene()
+        whole = pathlib.Path(db).read_bytes()
+        for cut in (0, 1, 5, 6, 7, 8, 9, 10, 11, 20, 64, 127, 128, 129, len(whole) - 1):
+            pathlib.Path(self.at("cut.npy")).write_bytes(whole[:cut])
+            self.fails(74, "cut.npy", "stats", self.at("cut.npy"), marks)
+        source = numpy.random.default_rng(3)
+        for _ in range(200):
+            bytes_ = bytearray(whole)
+            for _ in range(3):
+                bytes_[source.integers(0, 128)] = source.integers(0, 256)
+            pathlib.Path(self.at("bent.npy")).write_bytes(bytes_)
+            result = self.run_program("stats", self.at("bent.npy"), marks)
+            self.assertIn(result.returncode, (0, 74), result.stderr)
+            self.assertNotIn("panicked", result.stderr)
+
+    def test_kinds(self):
+        db, marks, _, _ = self.scene()
+        array = numpy.load(db)
+        for name, other in {"f4": array.astype("f4"), "big": array.astype(">f8"), "fortran": numpy.asfortranarray(array),
+                            "flat": array.ravel(), "cube": array[None], "text": array.astype(str)}.items():
+            self.fails(74, name, "stats", self.save(name + ".npy", other), marks)
+        self.fails(74, "m8.npy", "stats", db, self.save("m8.npy", array))
+        self.fails(74, "short.npy", "stats", db, self.save("short.npy", numpy.ones((16, 23), numpy.uint8)))
+        self.fails(74, "nowhere.npy", "stats", self.at("nowhere.npy"), marks)
+        self.fails(74, self.folder.name, "stats", self.folder.name, marks)
+
+    def test_pictures(self):
+        db, marks, _, _ = self.scene()
+        image = Image.fromarray(numpy.load(db).astype(numpy.float32))
+        for ending in ("tif", "png"):
+            (image if ending == "tif" else image.convert("L")).save(self.at("whole." + ending))
+            whole = pathlib.Path(self.at("whole." + ending)).read_bytes()
+            source = numpy.random.default_rng(5)
+            for k in range(60):
+                bytes_ = bytearray(whole)
+                if k % 2:
+                    bytes_ = bytes_[: source.integers(8, len(whole))]
+                else:
+                    for _ in range(4):
+                        bytes_[source.integers(4, len(bytes_))] = source.integers(0, 256)
+                pathlib.Path(self.at("bent." + ending)).write_bytes(bytes_)
+                command = ["stats", self.at("bent.tif"), marks] if ending == "tif" else ["stretch", self.at("bent.png"), "--out", self.at("o.npy")]
+                result = self.run_program(*command)
+                self.assertIn(result.returncode, (0, 1, 2, 3, 4, 74), result.stderr)
+                self.assertNotIn("panicked", result.stderr)
+        Image.new("RGB", (4, 4)).save(self.at("colour.png"))
+        self.fails(74, "colour.png", "stretch", self.at("colour.png"), "--out", self.at("o.npy"))
+
+    def test_outputs(self):
+        db, marks, _, _ = self.scene()
+        self.fails(74, "no/such", "grey", db, marks, "--out", self.at("no/such/folder.png"))
+        self.fails(64, "ends in", "grey", db, marks, "--out", self.at("grey.jpeg"))
+        self.assertEqual(self.run_program("grey", db, marks, "--out", self.at("g.png"), "--strategy", "none").returncode, 64)
+        self.assertEqual(self.run_program("grey").returncode, 64)
+        self.assertEqual(self.run_program("--help").returncode, 0)
+        self.assertIn("quicklook demo scene", self.done("--help"))
+
+    def test_view_refuses_without_a_page(self):
+        one = self.save("db.npy", numpy.array([[0.0, 14.0]]))
+        marks = self.save("m.npy", numpy.ones((1, 2), numpy.uint8))
+        self.fails(6, "refused 6: ", "view", one, marks, "--strategy", "standard", "--out", self.at("page.html"))
+        self.assertFalse(os.path.exists(self.at("page.html")))
+
+
+if __name__ == "__main__":
+    unittest.main(verbosity=1)

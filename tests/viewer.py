@@ -1,0 +1,229 @@
+"""The deck viewer's page in a real browser: values read back, views, gamma, patches, keyboard. Usage: viewer.py PATH-OF-QUICKLOOK [FOLDER-FOR-SCREENSHOTS]"""
+import os
+import pathlib
+import subprocess
+import sys
+import tempfile
+import time
+import unittest
+
+import numpy
+from selenium import webdriver
+from selenium.webdriver.chrome.options import Options
+from selenium.webdriver.chrome.service import Service
+from selenium.webdriver.common.action_chains import ActionChains
+from selenium.webdriver.common.by import By
+from selenium.webdriver.common.keys import Keys
+
+PROGRAM = os.path.abspath(sys.argv.pop(1))
+SHOTS = sys.argv.pop(1) if len(sys.argv) > 1 else None
+ROWS, COLS = 96, 128
+
+
+def browser(width, height):
+    options = Options()
+    for word in ("--headless=new", "--no-sandbox", "--disable-gpu", "--disable-dev-shm-usage", f"--window-size={width},{height}"):
+        options.add_argument(word)
+    options.add_experimental_option("prefs", {"download.default_directory": FOLDER})
+    options.set_capability("goog:loggingPrefs", {"browser": "ALL"})
+    return webdriver.Chrome(service=Service("/usr/bin/chromedriver"), options=options)
+
+
+def run(*words):
+    subprocess.run([PROGRAM, *words], check=True, cwd=FOLDER)
+
+
+def setUpModule():
+    global FOLDER, HOLDER, DB, MARKS, GREYS, RGB, STATS
+    HOLDER = tempfile.TemporaryDirectory()
+    FOLDER = HOLDER.name
+    source = numpy.random.default_rng(11)
+    DB, MARKS = [], []
+    for band in (1, 2):
+        db = source.normal(-14 - 3 * band, 3, (ROWS, COLS))
+        marks = (source.uniform(size=(ROWS, COLS)) < 0.93).astype(numpy.uint8)
+        db[marks == 0] = numpy.where(source.uniform(size=(marks == 0).sum()) < 0.5, numpy.nan, 1e6)
+        numpy.save(f"{FOLDER}/db{band}.npy", db)
+        numpy.save(f"{FOLDER}/marks{band}.npy", marks)
+        DB.append(db)
+        MARKS.append(marks)
+    bands = ["db1.npy", "marks1.npy", "db2.npy", "marks2.npy"]
+    run("picture", *bands, "--strategy", "robust", "--out", "rgb.npy", "--grey1", "grey1.npy", "--grey2", "grey2.npy")
+    run("view", *bands, "--strategy", "robust", "--title", "Site <7> & \"more\"", "--out", "page.html")
+    run("view", "db1.npy", "marks1.npy", "--strategy", "robust", "--out", "one.html")
+    GREYS = [numpy.load(f"{FOLDER}/grey{band}.npy") for band in (1, 2)]
+    RGB = numpy.load(f"{FOLDER}/rgb.npy")
+    STATS = [
+        dict(line.split() for line in subprocess.run([PROGRAM, "stats", f"db{b}.npy", f"marks{b}.npy"], cwd=FOLDER, capture_output=True, text=True, check=True).stdout.splitlines())
+        for b in (1, 2)
+    ]
+
+
+def tearDownModule():
+    HOLDER.cleanup()
+
+
+class Page(unittest.TestCase):
+    def open(self, name="page.html", width=1366, height=768):
+        self.driver = browser(width, height)
+        self.addCleanup(self.driver.quit)
+        self.driver.get(f"file://{FOLDER}/{name}")
+        self.wait("document.documentElement.dataset.complete")
+
+    def wait(self, test, seconds=20):
+        end = time.monotonic() + seconds
+        while time.monotonic() < end:
+            if self.driver.execute_script(f"return Boolean({test})"):
+                return
+            time.sleep(0.05)
+        self.fail(f"never: {test}")
+
+    def text(self, id_):
+        return self.driver.find_element(By.ID, id_).text
+
+    def press(self, *keys):
+        ActionChains(self.driver).send_keys(*keys).perform()
+
+    def place(self, row, col):
+        """Where a pixel stands, from the middle of the canvas, in CSS pixels."""
+        return self.driver.execute_script(
+            """const s = Quicklook.state, c = document.getElementById("screen"), box = c.getBoundingClientRect(), k = box.width / c.width;
+               return [(s.left + (arguments[1] + 0.5) * s.scale) * k - box.width / 2, (s.top + (arguments[0] + 0.5) * s.scale) * k - box.height / 2];""",
+            row, col)
+
+    def point_at(self, row, col):
+        x, y = self.place(row, col)
+        screen = self.driver.find_element(By.ID, "screen")
+        ActionChains(self.driver).move_to_element_with_offset(screen, round(x), round(y)).perform()
+
+    def readout(self):
+        """What a reader sees, once the decibels are there."""
+        self.wait("!document.getElementById('readout').textContent.includes('…')")
+        return {dt.text: dd.text for dt, dd in zip(self.driver.find_elements(By.CSS_SELECTOR, "#readout dt"), self.driver.find_elements(By.CSS_SELECTOR, "#readout dd"))}
+
+    def expected(self, row, col):
+        lines = {"Row": str(row), "Column": str(col), "Red green blue": " ".join(map(str, RGB[row, col]))}
+        for band in (1, 2):
+            lines[f"Grey {band}"] = str(GREYS[band - 1][row, col])
+        return lines
+
+    def assert_read(self, row, col):
+        found = self.readout()
+        for name, value in self.expected(row, col).items():
+            self.assertEqual(found[name], value, name)
+        for band in (1, 2):
+            shown = found[f"Decibel {band}"]
+            value = DB[band - 1][row, col]
+            if MARKS[band - 1][row, col]:
+                self.assertEqual(float(shown), value)
+            else:
+                self.assertTrue(shown.startswith("invalid"), shown)
+
+    def test_pointer_reads_the_engines_bytes(self):
+        self.open()
+        self.assertEqual(self.driver.title, 'Site <7> & "more"')
+        for row, col in ((0, 0), (1, 7), (50, 64), (95, 127), (33, 3)):
+            self.point_at(row, col)
+            self.assert_read(row, col)
+        self.assertEqual(self.driver.get_log("browser"), [])
+
+    def test_every_byte_travels(self):
+        self.open()
+        for band in (1, 2):
+            self.driver.execute_async_script("const done = arguments[1]; Quicklook.decibels(arguments[0], 0).then(done)", band)
+        found = self.driver.execute_script(
+            """const out = []; for (let r = 0; r < 96; r++) for (let c = 0; c < 128; c++) { const v = Quicklook.values(r, c);
+               out.push([v.grey1, v.grey2, v.mark1, v.mark2, ...v.rgb, Number.isFinite(v.db1) ? v.db1 : null, Number.isFinite(v.db2) ? v.db2 : null]); } return out;""")
+        for i, pixel in enumerate(found):
+            row, col = divmod(i, COLS)
+            self.assertEqual(pixel[:7], [*(int(g[row, col]) for g in GREYS), *(int(m[row, col]) for m in MARKS), *map(int, RGB[row, col])])
+            for value, db in zip(pixel[7:], DB):
+                self.assertTrue(value == db[row, col] or (value is None and not numpy.isfinite(db[row, col])))
+
+    def test_views_and_gamma_leave_the_values(self):
+        self.open()
+        self.point_at(40, 40)
+        before = self.readout()
+        shown = self.driver.execute_script("return document.getElementById('screen').toDataURL()")
+        for key, view in (("2", "grey1"), ("3", "grey2"), ("1", "rgb")):
+            self.press(key)
+            self.assertEqual(self.driver.execute_script("return Quicklook.state.view"), view)
+            self.assertEqual(self.readout(), before)
+        for _ in range(6):
+            self.press("]")
+        self.assertAlmostEqual(self.driver.execute_script("return Quicklook.state.gamma"), 1.3)
+        self.assertNotEqual(self.driver.execute_script("return document.getElementById('screen').toDataURL()"), shown)
+        self.assertEqual(self.readout(), before)
+        self.assertIn("Screen only", self.text("gamma-note"))
+        self.assert_read(40, 40)
+
+    def figures(self, band, row0, row1, col0, col1):
+        greys = GREYS[band - 1][row0 : row1 + 1, col0 : col1 + 1]
+        valid = greys[MARKS[band - 1][row0 : row1 + 1, col0 : col1 + 1] == 1]
+        return [str(len(valid)), f"{valid.mean():.2f}", str(valid.min()), str(valid.max())]
+
+    def test_patches(self):
+        self.open()
+        screen = self.driver.find_element(By.ID, "screen")
+        self.driver.find_element(By.ID, "patch").click()
+        (x0, y0), (x1, y1) = self.place(10, 20), self.place(29, 49)
+        ActionChains(self.driver).move_to_element_with_offset(screen, round(x0), round(y0)).click_and_hold().move_to_element_with_offset(screen, round(x1), round(y1)).release().perform()
+        # the second one by keyboard: from the cursor, eight rows down and twelve columns right
+        self.point_at(60, 70)
+        self.press("p", *[Keys.ARROW_DOWN] * 8, *[Keys.ARROW_RIGHT] * 12, "p")
+        rows = [[cell.text for cell in tr.find_elements(By.TAG_NAME, "td")] for tr in self.driver.find_elements(By.CSS_SELECTOR, "#patches tbody tr")]
+        self.assertEqual(len(rows), 4)
+        for row, (band, area) in zip(rows, ((1, (10, 29, 20, 49)), (2, (10, 29, 20, 49)), (1, (60, 68, 70, 82)), (2, (60, 68, 70, 82)))):
+            self.assertEqual(row[1:4], [f"{area[0]}–{area[1]}", f"{area[2]}–{area[3]}", str(band)])
+            self.assertEqual(row[4:8], self.figures(band, *area))
+        if SHOTS:
+            self.driver.save_screenshot(f"{SHOTS}/patches.png")
+
+    def test_statistics_and_window(self):
+        self.open()
+        rows = [[cell.text for cell in tr.find_elements(By.TAG_NAME, "td")] for tr in self.driver.find_elements(By.CSS_SELECTOR, "#statistics tr")][1:]
+        self.assertEqual(len(rows), 16)
+        for name, *values in rows:
+            self.assertEqual([float(v) for v in values], [float(s[name]) for s in STATS], name)
+        self.assertEqual(len(self.driver.find_elements(By.CSS_SELECTOR, "#histograms canvas")), 2)
+
+    def test_marks_zoom_save_and_night(self):
+        self.open()
+        picture = lambda: self.driver.execute_script("return document.getElementById('screen').toDataURL()")
+        plain = picture()
+        self.press("m")
+        self.assertNotEqual(picture(), plain)
+        self.press("m", "+", "+")
+        self.assertNotEqual(picture(), plain)
+        self.press("0")
+        self.assertEqual(picture(), plain)
+        night = self.driver.execute_script("return document.documentElement.classList.contains('night')")
+        self.press("t")
+        self.assertNotEqual(self.driver.execute_script("return document.documentElement.classList.contains('night')"), night)
+        self.press("s")
+        end = time.monotonic() + 10
+        while time.monotonic() < end and not list(pathlib.Path(FOLDER).glob("*.png")):
+            time.sleep(0.1)
+        saved = list(pathlib.Path(FOLDER).glob("*.png"))
+        self.assertTrue(saved and saved[0].read_bytes().startswith(b"\x89PNG"))
+
+    def test_one_band(self):
+        self.open("one.html")
+        self.point_at(5, 9)
+        found = self.readout()
+        self.assertEqual(found["Grey 1"], str(GREYS[0][5, 9]))
+        self.assertNotIn("Grey 2", found)
+        self.assertFalse(self.driver.find_element(By.CSS_SELECTOR, "[data-view=rgb]").is_displayed())
+
+    def test_phone(self):
+        self.open(width=390, height=844)
+        self.driver.execute_script("Quicklook.moveTo(50, 64)")
+        self.assert_read(50, 64)
+        wide = self.driver.execute_script("return document.documentElement.scrollWidth - document.documentElement.clientWidth")
+        self.assertLessEqual(wide, 0)
+        if SHOTS:
+            self.driver.save_screenshot(f"{SHOTS}/phone.png")
+
+
+if __name__ == "__main__":
+    unittest.main(verbosity=1)
