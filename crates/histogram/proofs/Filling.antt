@@ -1,11 +1,11 @@
 -- The bin of a value lies below 4,096, and one turn of the loop that fills the bins. Assumes nothing.
 use mathlib.Core.Path.{_≡_, refl, sym, ap, _∙_}
 use mathlib.Core.List.{List, [], _∷_, map}
-use Prim.Native.Nat.{ℕ, zero, suc, _+_, _≤_, _<_, min, suc-le-suc}
+use Prim.Native.Nat.{ℕ, zero, suc, _+_, _^_, _≤_, _<_, min, suc-le-suc}
 use native.Mathlib.Nat.{le-of-lt, min-eq-left, min-eq-right, min-le-right}
 use native.Mathlib.Omega.{arith}
 use lib.Dec.{T}
-use lib.ListN.{length, getD, set, drop}
+use lib.ListN.{length, getD, set, drop, replicate}
 use lib.Ieee.{Float, nan, binary64, mul, sub, le, ofBits, toUnsigned}
 use Rattle.spec.specs.Floats.{zero64, one64, held}
 use Rattle.spec.specs.Bins.{bins64, binOf}
@@ -89,3 +89,13 @@ module _ (f : Float → ℕ) (h : List ℕ) (m : List ℕ) (d : List Float) (i :
     filled-one e n q =
         ap (filled f h) (next-on m d i a b e) ∙ filled-on f h (getD d i nan) (drop (i + 1) (pixels m d))
         ∙ ap (λ (j : ℕ). filled f (added j h) (drop (i + 1) (pixels m d))) (sym q)
+
+-- ---- empty bins
+
+zeros-at : (n k : ℕ) → _≡_ {A = ℕ} (getD (replicate n 0) k 0) 0
+zeros-at zero k = refl
+zeros-at (suc n) zero = refl
+zeros-at (suc n) (suc k) = zeros-at n k
+
+pub empty-room : (n : ℕ) → n < 2 ^ 32 → (k : ℕ) → getD (replicate 4096 0) k 0 + n < 2 ^ 32
+empty-room n h k = omega (arith, zeros-at 4096 k)

@@ -1,3 +1,5 @@
 pub mod Passes
 pub mod Filling
 pub mod Seeking
+pub mod Summary
+pub mod Statistics

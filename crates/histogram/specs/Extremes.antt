@@ -7,7 +7,6 @@ use lib.Ieee.{Float, lt}
 use Rattle.types.specs.declared.Moments.{Moments}
 use Rattle.types.specs.declared.HistogramStats.{HistogramStats}
 use Rattle.spec.specs.Floats.{zero64}
-use Rattle.spec.specs.Moments.{noMoments}
 
 -- count, least and greatest with one value more
 unfoldable pub withExtreme : Moments → Float → Moments

@@ -1,2 +1,3 @@
 pub mod Extremes
 pub mod Passes
+pub mod Summary

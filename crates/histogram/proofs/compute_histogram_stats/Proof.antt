@@ -1,0 +1,61 @@
+-- `histogram::compute_histogram_stats` meets its contract. Assumes nothing.
+use mathlib.Core.Path.{sym, _∙_}
+use native.Mathlib.Nat.{mul-le-mul}
+use native.Mathlib.Omega.{arith}
+use Rattle.spec.specs.Statistics.{readStatistics}
+use Rattle.raster.proofs.Bands.{shape-accepted}
+use Rattle.histogram.proofs.Statistics.{call-shape, call-bad, call-done}
+use borrow.Author.Needs.{needs}
+use Rattle.histogram.proofs.compute_histogram_stats.Statement.{statement}
+use Rattle.histogram.proofs.compute_histogram_stats.Tie as tie
+
+shape-refusal-requires : tie.Need-shape-refusal-requires
+shape-refusal-requires c κs = search needs
+
+returns : tie.Need-returns
+unfolding readStatistics
+returns c = call-shape _ _ _ _ _ (c .before .shape-refusal .ensures) (c .if1 .taken)
+
+first-pass-requires : tie.Need-first-pass-requires
+first-pass-requires c κs =
+    let s = shape-accepted _ _ _ _ (sym (c .before .shape-refusal .ensures) ∙ c .if1 .left) in
+    (s .length-marks ∙ sym (s .length-db), omega (arith, s .length-db, mul-le-mul (s .rows-most) (s .cols-most)))
+
+enum-known-m : tie.Need-enum-known-m
+enum-known-m c = search needs
+
+enum-told : tie.Need-enum-told
+enum-told c = search needs
+
+returns-2 : tie.Need-returns-2
+unfolding readStatistics
+returns-2 c =
+    let f = c .before .before in
+    let b = f .before in
+    call-bad _ _ _ _ (sym (b .before .shape-refusal .ensures) ∙ b .if1 .left) (sym (f .first-pass .ensures) ∙ c .enum-told .given .1)
+
+summary-of-requires : tie.Need-summary-of-requires
+summary-of-requires c κs =
+    let b = c .before .before .before .before in
+    let s = shape-accepted _ _ _ _ (sym (b .before .shape-refusal .ensures) ∙ b .if1 .left) in
+    (s .length-marks ∙ sym (s .length-db), omega (arith, s .length-db, mul-le-mul (s .rows-most) (s .cols-most)))
+
+returns-3 : tie.Need-returns-3
+unfolding readStatistics
+returns-3 c =
+    let f = c .before .before .before .before in
+    let b = f .before in
+    call-done _ _ _ _ (sym (b .before .shape-refusal .ensures) ∙ b .if1 .left) _ (sym (f .first-pass .ensures) ∙ c .before .before .m .given .1) _ (c .summary-of .ensures)
+
+pub compute-histogram-stats-spec : {M : Type 1} → statement M
+compute-histogram-stats-spec =
+    tie.close
+    (tie.spec
+    shape-refusal-requires
+    returns
+    first-pass-requires
+    enum-known-m
+    enum-told
+    returns-2
+    summary-of-requires
+    returns-3)
