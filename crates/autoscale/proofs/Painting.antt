@@ -1,11 +1,11 @@
 -- The painting of a band, a pixel at a time. Assumes nothing.
 use mathlib.Core.Path.{_≡_, refl, sym, ap, _∙_}
 use mathlib.Core.List.{List, [], _∷_, _++_}
-use Prim.Native.Nat.{ℕ, suc, _+_, _≤_, _<_, min, max}
+use Prim.Native.Nat.{ℕ, _+_, _≤_, _<_, min, max}
 use native.Mathlib.Nat.{add-zero}
 use native.Mathlib.Numerals.{add-one}
 use lib.Dec.{T}
-use lib.ListN.{length, take, drop, set, getD}
+use lib.ListN.{length, take, set, getD}
 use lib.Seq.{getD-drop, take-suc-set}
 use lib.Ieee.{Float, nan, le, ofBits, toUnsigned}
 use Rattle.spec.specs.Floats.{zero64, held}

@@ -75,3 +75,25 @@ pub fn paint_u16(db: &[f64], valid_mask: &[u8], low: f64, high: f64, range: f64,
         i += 1;
     }
 }
+
+// A blank band at 8 bits.
+pub fn clear_u8(out: &mut [u8])
+    ensures { λ _. ⌜ now (out .exit) ≡ map (λ x. 0) (now (out .entry)) ⌝ }
+{
+    let mut i = 0;
+    while i < out.len() {
+        out[i] = 0;
+        i += 1;
+    }
+}
+
+// A blank band at 16 bits.
+pub fn clear_u16(out: &mut [u16])
+    ensures { λ _. ⌜ now (out .exit) ≡ map (λ x. 0) (now (out .entry)) ⌝ }
+{
+    let mut i = 0;
+    while i < out.len() {
+        out[i] = 0;
+        i += 1;
+    }
+}

@@ -8,19 +8,19 @@ use native.Mathlib.Omega.{arith}
 use lib.Dec.{T, lit<, le→leb}
 use lib.IntN.{pos}
 use lib.ListN.{length, getD}
-use lib.Ieee.{Float, fin, binary64, add, sub, div, lt, le, round, ofInt, ofBits, toUnsigned, inFloat}
+use lib.Ieee.{Float, fin, binary64, add, sub, mul, div, lt, le, round, ofInt, ofBits, toUnsigned, inFloat}
 use lib.Ieee.Back.{unsigned-back}
 use lib.Ieee.Positive.{den, den-pos, num}
 use lib.Ieee.Scale.{finite}
 use Rattle.numeric.proofs.Order.{plus, less, number-of-finite, le-trans as le-trans', le-of-lt, finite-between, le-refl as le-refl'}
 use Rattle.numeric.proofs.Round.{Rounds, round-le, rounds-le}
 use Rattle.numeric.proofs.Ops.{sub-nonneg, add-le-both, sub-le-both, div-le, div-rounds}
-use Rattle.numeric.proofs.Picks.{toUnsigned-le}
+use Rattle.numeric.proofs.Picks.{toUnsigned-le, above-larger}
 use Rattle.numeric.proofs.Values.{value-finite, value-plus, count-value, count-sub}
 use Rattle.numeric.proofs.Exact.{count-add}
-use Rattle.spec.specs.Floats.{zero64, ofCount}
+use Rattle.spec.specs.Floats.{zero64, one64, two64, ofCount, larger}
 use Rattle.spec.specs.Lists.{sumOf}
-use Rattle.spec.specs.Clahe.{levels64, clipped, excess}
+use Rattle.spec.specs.Clahe.{levels64, threshold, clipped, excess}
 use Rattle.clahe.proofs.Cells.{map-at}
 
 -- ---- counts as floats
@@ -139,3 +139,8 @@ clipped-at limit (h ∷ hs) (suc k) b = clipped-at limit hs k (λ j. b (suc j))
 -- a clipped bin and its share, as long as the bins sum to less than 2 ^ 31
 pub share-fits : (limit : Float) (hs : List ℕ) (each : ℕ) → sumOf hs < 2 ^ 31 → each ≤ sumOf hs → (k : ℕ) → getD (map (clipped limit) hs) k 0 + each + 1 < 2 ^ 32
 share-fits limit hs each b l k = omega (arith, clipped-at limit hs k (λ j. omega (arith, bin-most hs j)), bin-most hs k)
+
+pub threshold-low : (area : ℕ) → T (le zero64 (threshold area))
+unfolding threshold le ofBits
+threshold-low area =
+    le-trans' zero64 one64 (larger (mul binary64 two64 (div binary64 (ofCount area) levels64)) one64) tt (above-larger (mul binary64 two64 (div binary64 (ofCount area) levels64)) one64 tt)

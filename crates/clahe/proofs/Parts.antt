@@ -1,10 +1,15 @@
 -- Parts of lists that are made element by element. Assumes nothing.
 use mathlib.Core.Path.{_≡_, refl, sym, ap, subst, _∙_}
-use mathlib.Core.List.{List, [], _∷_, map, zipWith}
+use mathlib.Core.List.{List, [], _∷_, _++_, map, zipWith}
 use Prim.Native.Nat.{ℕ, zero, suc, _+_, _-_, _*_, _≤_, _<_, zero-le, suc-le-suc}
 use native.Mathlib.Nat.{suc-inj, le-of-suc-le-suc, not-suc-le-zero}
-use lib.Ieee.{Float}
-use lib.ListN.{length, getD, take, drop}
+use native.Mathlib.Omega.{arith}
+use borrow.Author.Count.{below-more}
+use lib.Ieee.{Float, nan}
+use lib.ListN.{length, getD, take, drop, length-map, List·getD-append}
+use lib.Seq.{length-take-le, getD-take, getD-append-add}
+use Rattle.spec.specs.Lists.{places}
+use Rattle.clahe.proofs.Cells.{places-length, places-at}
 use Rattle.spec.specs.Pixels.{Pixel, pixel, pixels}
 use Rattle.spec.specs.Grey.{normalPixel}
 use Rattle.clahe.specs.Band.{band}
@@ -66,3 +71,26 @@ pub band-between : (low high range : Float) (marks : List ℕ) (db : List Float)
     → band low high range (take (e - a) (drop a marks)) (take (e - a) (drop a db)) ≡ take n (drop a (band low high range marks db))
 band-between low high range marks db a e n p =
     ap (λ (m : ℕ). band low high range (take m (drop a marks)) (take m (drop a db))) p ∙ band-part low high range marks db a n
+
+-- ---- a part put back
+
+module _ {A : Type 0} (d : A) (a : ℕ) (xs ys zs : List A) (h : a ≤ length xs) where
+  pub put-before : (j : ℕ) → j < a → getD (take a xs ++ (ys ++ zs)) j d ≡ getD xs j d
+  put-before j l = List·getD-append (take a xs) (ys ++ zs) d j (omega (arith, length-take-le a xs h)) ∙ getD-take a xs j d l
+
+  pub put-inside : (j : ℕ) → j < length ys → getD (take a xs ++ (ys ++ zs)) (a + j) d ≡ getD ys j d
+  put-inside j l =
+      ap (λ (n : ℕ). getD (take a xs ++ (ys ++ zs)) (n + j) d) (sym (length-take-le a xs h)) ∙ getD-append-add (take a xs) (ys ++ zs) j d ∙ List·getD-append ys zs d j l
+
+-- a list of tables, 256 places each, with table k put in
+pub put-table : (g : ℕ → ℕ → Float) (xs ys zs : List Float) (k : ℕ) → k * 256 ≤ length xs → ys ≡ map (g k) (places 256)
+    → ((j b : ℕ) → j < k → b < 256 → getD xs (j * 256 + b) nan ≡ g j b) → (j b : ℕ) → j < k + 1 → b < 256 → getD (take (k * 256) xs ++ (ys ++ zs)) (j * 256 + b) nan ≡ g j b
+put-table g xs ys zs k h e all j b l m = go j l b m
+  where
+    size : length ys ≡ 256
+    size = ap length e ∙ length-map (places 256) (g k) ∙ places-length 0 256
+    go : (j : ℕ) → j < k + 1 → (b : ℕ) → b < 256 → getD (take (k * 256) xs ++ (ys ++ zs)) (j * 256 + b) nan ≡ g j b
+    go =
+        below-more (λ (j : ℕ). (b : ℕ) → b < 256 → getD (take (k * 256) xs ++ (ys ++ zs)) (j * 256 + b) nan ≡ g j b) k
+        (λ j l b m. put-before nan (k * 256) xs ys zs h (j * 256 + b) (omega arith) ∙ all j b l m)
+        (λ b m. put-inside nan (k * 256) xs ys zs h b (omega (arith, size)) ∙ ap (λ (t : List Float). getD t b nan) e ∙ places-at (g k) nan 256 b m)

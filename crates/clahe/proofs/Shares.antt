@@ -2,7 +2,7 @@
 use mathlib.Core.Path.{_≡_, refl, sym, ap, _∙_}
 use mathlib.Core.Bool.{Bool, cond}
 use mathlib.Core.List.{List, [], _∷_, map}
-use Prim.Native.Nat.{ℕ, zero, suc, _+_, _≤_, _<_}
+use Prim.Native.Nat.{ℕ, zero, suc, _+_, _*_, _/_, _%_, _≤_, _<_}
 use native.Mathlib.Decide.{decLt}
 use native.Mathlib.Nat.{add-zero, le-of-suc-le-suc, not-suc-le-zero}
 use native.Mathlib.Omega.{arith}
@@ -10,7 +10,10 @@ use native.Mathlib.Numerals.{add-one}
 use borrow.Author.Tests.{lt-ltb, le-ltb}
 use lib.Dec.{ltb}
 use lib.ListN.{length, getD}
-use Rattle.spec.specs.Clahe.{oneByOne}
+use lib.Ieee.{Float, binary64, sub, mul, div, toUnsigned}
+use Rattle.spec.specs.Floats.{ofCount, rounded}
+use Rattle.spec.specs.Pixels.{Pixel}
+use Rattle.spec.specs.Clahe.{levels64, oneByOne, shared, threshold, clipAt, clip, tileSize, tilePixels, tileCounts, tileTable}
 
 pub one-by-one-length : (rest : ℕ) (hs : List ℕ) → length (oneByOne rest hs) ≡ length hs
 unfolding oneByOne
@@ -31,3 +34,17 @@ one-by-one-at rest [] k h = absurd (not-suc-le-zero h)
 one-by-one-at zero (x ∷ hs) k h = none-more k (getD (x ∷ hs) k 0)
 one-by-one-at (suc rest) (x ∷ hs) zero h = sym (ap (λ (t : Bool). x + cond t 1 0) (lt-ltb 0 (suc rest) (omega arith)))
 one-by-one-at (suc rest) (x ∷ hs) (suc k) h = one-by-one-at rest hs k (le-of-suc-le-suc h) ∙ ap (λ (t : Bool). getD hs k 0 + cond t 1 0) (sym (suc-ltb k rest (decLt k rest)))
+
+pub shared-from : (over : Float) (hs : List ℕ) (each rest : ℕ) → each ≡ toUnsigned 64 (div binary64 over levels64)
+    → rest ≡ rounded (sub binary64 over (mul binary64 (ofCount each) levels64)) → oneByOne rest (map (λ h. h + each) hs) ≡ shared over hs
+unfolding shared
+shared-from over hs each rest p q =
+    ap (λ (n : ℕ). oneByOne n (map (λ h. h + each) hs)) q
+    ∙ ap (λ (e : ℕ). oneByOne (rounded (sub binary64 over (mul binary64 (ofCount e) levels64))) (map (λ h. h + e) hs)) p
+
+-- the counts of tile k after clipping
+pub table-of : (rows cols : ℕ) (px : List Pixel) (k : ℕ) (limit : Float) (counted hs : List ℕ) → limit ≡ threshold (tileSize rows (k / 8) * tileSize cols (k % 8))
+    → counted ≡ tileCounts (tilePixels rows cols px (k / 8) (k % 8)) → hs ≡ clipAt limit counted → hs ≡ tileTable rows cols px k
+unfolding tileTable clip
+table-of rows cols px k limit counted hs p q e =
+    e ∙ ap (λ (l : Float). clipAt l counted) p ∙ ap (clipAt (threshold (tileSize rows (k / 8) * tileSize cols (k % 8)))) q

@@ -2,17 +2,17 @@
 use mathlib.Core.Path.{_≡_, refl, sym, ap, subst, _∙_}
 use mathlib.Core.List.{List, [], _∷_, _++_, map, flatMap, map-append, append-nil}
 use Prim.Native.Nat.{ℕ, zero, suc, _+_, _-_, _*_, _≤_, _<_, min, zero-le, suc-le-suc}
-use native.Mathlib.Nat.{add-zero, sub-zero, mul-le-mul-right, le-of-suc-le-suc, not-suc-le-zero, suc-inj}
+use native.Mathlib.Nat.{add-zero, sub-zero, suc-mul, mul-le-mul-right, le-of-suc-le-suc, not-suc-le-zero, suc-inj}
 use native.Mathlib.Omega.{arith}
 use lib.Ieee.{Float}
-use lib.ListN.{length, getD, take, drop, length-take}
-use Rattle.lists.proofs.Counts.{Below, counts-from-cells, stored-more}
-use Rattle.spec.specs.Lists.{placesFrom, counts, countOf, stored}
+use lib.ListN.{length, getD, take, drop, replicate, length-take, length-append}
+use Rattle.lists.proofs.Counts.{Below, counts-from-cells, stored-more, counts-sum}
+use Rattle.spec.specs.Lists.{placesFrom, counts, countOf, stored, sumOf}
 use Rattle.spec.specs.Pixels.{Pixel, off, on, pixel, pixels, validOf}
 use Rattle.spec.specs.Grey.{normalPixel}
 use Rattle.spec.specs.Clahe.{tileSide, tileStart, tileSize, tilePixels, tileCounts, levelOf}
 use Rattle.clahe.specs.Band.{band, levels}
-use Rattle.clahe.proofs.Whole.{next-times}
+use Rattle.clahe.proofs.Whole.{next-times, times-most}
 use Rattle.clahe.proofs.Rows.{Most, stored-append, stored-most}
 
 -- ---- where it lies
@@ -123,3 +123,32 @@ module _ (rows cols : ℕ) (px : List Pixel) (ty tx : ℕ) (h : List ℕ) where
       ap (λ (g : List ℕ). stored g (levels (tilePixels rows cols px ty tx))) (counts-from-cells 256 h [] e (λ k l. z k))
       ∙ stored-more 256 (levels (tilePixels rows cols px ty tx)) [] (levels-below (tilePixels rows cols px ty tx))
       ∙ ap (counts 256) (append-nil (levels (tilePixels rows cols px ty tx)))
+
+-- ---- a tile has no more than 4,096 by 4,096 pixels, and so its counts sum to no more
+
+rows-most : (f : ℕ → List Pixel) (m : ℕ) → ((q : ℕ) → length (f q) ≤ m) → (q n : ℕ) → length (flatMap f (placesFrom q n)) ≤ n * m
+unfolding placesFrom flatMap
+rows-most f m b q zero = zero-le
+rows-most f m b q (suc n) =
+    omega (arith, length-append (f q) (flatMap f (placesFrom (suc q) n)), b q, rows-most f m b (suc q) n, suc-mul n m)
+
+tile-pixels-most : (rows cols : ℕ) (px : List Pixel) (ty tx : ℕ) → length (tilePixels rows cols px ty tx) ≤ tileSize rows ty * tileSize cols tx
+unfolding tilePixels
+tile-pixels-most rows cols px ty tx =
+    rows-most (λ r. take (tileSize cols tx) (drop (r * cols + tileStart cols tx) px)) (tileSize cols tx)
+    (λ q. omega (arith, length-take (tileSize cols tx) (drop (q * cols + tileStart cols tx) px))) (tileStart rows ty) (tileSize rows ty)
+
+pub area-most : (rows cols ty tx : ℕ) → rows ≤ 4096 → cols ≤ 4096 → tileSize rows ty * tileSize cols tx ≤ 16777216
+area-most rows cols ty tx h k =
+    times-most (tileSize rows ty) (tileSize cols tx) 4096 4096 (omega (arith, tile-most rows ty)) (omega (arith, tile-most cols tx))
+
+pub tile-sum-most : (rows cols : ℕ) (px : List Pixel) (ty tx : ℕ) → rows ≤ 4096 → cols ≤ 4096 → sumOf (tileCounts (tilePixels rows cols px ty tx)) ≤ 16777216
+unfolding tileCounts
+tile-sum-most rows cols px ty tx h k =
+    let ps = tilePixels rows cols px ty tx in
+    omega (arith, counts-sum 256 (levels ps) (levels-below ps), levels-fewer ps, tile-pixels-most rows cols px ty tx, area-most rows cols ty tx h k)
+
+pub no-counts : (n k : ℕ) → getD {A = ℕ} (replicate n 0) k 0 ≡ 0
+no-counts zero k = refl
+no-counts (suc n) zero = refl
+no-counts (suc n) (suc k) = no-counts n k

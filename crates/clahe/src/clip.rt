@@ -88,3 +88,15 @@ pub fn share(hist: &mut [u32], each: u32, rest: u64)
         b += 1;
     }
 }
+
+// A tile's counts after clipping at a limit.
+pub fn clip(hist: &mut [u32], limit: f64)
+    requires { ⌜ (length (now hist) ≡ 256) × (sumOf (now hist) < 2 ^ 31) × T (le zero64 limit) ⌝ }
+    ensures { λ _. ⌜ now (hist .exit) ≡ Clahe.clipAt limit (now (hist .entry)) ⌝ }
+{
+    let over = excess(hist, limit);
+    clip_bins(hist, limit);
+    let each = numeric::f64_as_u64(over / 256.0);
+    let rest = numeric::round_f64_as_u64(over - each as f64 * 256.0);
+    share(hist, each as u32, rest);
+}

@@ -6,7 +6,6 @@ ghost use lib.ListN.{length};
 ghost use Rattle.spec.specs.Answer.{firstOf, number, replyNumber, after};
 ghost use Rattle.spec.specs.Refusals.{tooLong, unlike};
 ghost use Rattle.spec.specs.Marks.{markOf, marksCall};
-
 use types::Reply;
 
 // The mark of one value: 0 for a NaN.
@@ -44,9 +43,7 @@ fn refusal(processed: usize, valid_mask: usize) -> u8
 // The marks of a whole list.
 pub fn process_scalar_data_mask(processed: &[f32], valid_mask: &mut [u8]) -> Reply
     ensures reply { λ r. ⌜ replyNumber r ≡ number (marksCall (now (processed .entry)) (length (now («valid_mask» .entry)))) ⌝ }
-    ensures marks {
-        λ _. ⌜ now («valid_mask» .exit) ≡ after (λ l. l) (marksCall (now (processed .entry)) (length (now («valid_mask» .entry)))) (now («valid_mask» .entry)) ⌝
-    }
+    ensures marks { λ _. ⌜ now («valid_mask» .exit) ≡ after (λ l. l) (marksCall (now (processed .entry)) (length (now («valid_mask» .entry)))) (now («valid_mask» .entry)) ⌝ }
 {
     let refused = refusal(processed.len(), valid_mask.len());
     if refused > 0 {

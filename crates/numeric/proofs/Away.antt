@@ -1,21 +1,25 @@
 -- Rounding half away from zero, by the whole part n: one more where x reaches n + 1/2, and nothing to round from 2^(prec - 1) on. Assumes nothing.
-use mathlib.Core.Path.{_≡_, refl, sym, subst}
-use Prim.Native.Nat.{ℕ, zero, suc, _+_, _-_, _*_, _/_, _%_, _^_, _≤_, _<_, zero-le, suc-le-suc}
-use native.Mathlib.Nat.{le-trans, lt-of-lt-of-le, lt-of-not-le, mul-assoc, mul-left-comm, add-mul, mul-le-mul-left, le-div-iff-mul-le, zero-div, div-mul-le-self, lt-div-mul-add, div-eq-of-lt-le}
+use mathlib.Core.Path.{_≡_, refl, sym, ap, _∙_, subst}
+use Prim.Native.Nat.{ℕ, zero, suc, _+_, _-_, _*_, _/_, _%_, _^_, _≤_, _<_, min, zero-le, suc-le-suc}
+use native.Mathlib.Nat.{le-trans, le-of-eq, lt-of-lt-of-le, lt-of-le-of-lt, lt-of-not-le, zero-mul, mul-one, mul-comm, mul-assoc, mul-left-comm, add-mul, mul-pos, mul-le-mul-left, mul-le-mul-right, mul-lt-mul-of-pos-right, le-div-iff-mul-le, zero-div, div-mul-le-self, lt-div-mul-add, div-eq-of-lt-le}
 use native.Mathlib.Omega.{arith}
-use mathlib.Core.Bool.{true, false, not, _&&_}
-use lib.IntN.{pos, negsuc}
-use lib.Dec.{T, T-not, ltb, leb, eqb, ltb→lt, lit<, lit≤}
-use lib.Pow.{pow-pos, pow-mono, shl-lt}
-use lib.Ieee.{Float, nan, inf, fin, Format, binary32, binary64, prec, low, emax, round, add, le, ofInt, fits, toUnsigned}
-use lib.Ieee.Back.{round-whole}
+use mathlib.Core.Bool.{Bool, true, false, not, _&&_}
+use lib.IntN.{ℤ, pos, negsuc}
+use lib.Dec.{T, T-not, ltb, leb, eqb, ltb→lt, lt→ltb, nltb→le, lit<, lit≤}
+use lib.Pow.{pow-add, pow-pos, pow-mono, shl-lt}
+use lib.Ieee.{Float, nan, inf, fin, Format, binary32, binary64, prec, low, emax, up, down, round, neg, add, lt, le, ofInt, fits, toUnsigned}
+use lib.Ieee.Back.{round-whole, whole-unique}
 use lib.Ieee.Exact.{HasValue, round-exact}
-use lib.Ieee.Fits.{and-l, and-r}
+use lib.Ieee.Fits.{and-l, and-r, up-pos, neg-fits, round-fits}
 use lib.Ieee.Order.{le-of-values}
 use lib.Ieee.Positive.{den, den-pos}
 use lib.Ieee.Scale.{finite}
 use Rattle.spec.specs.Floats.{rounded}
-use Rattle.numeric.proofs.Order.{plus, less, le-trans as le-trans'}
+use Rattle.numeric.specs.Round.{halfAway}
+use Rattle.numeric.proofs.Order.{plus, less, le-of-lt, le-trans as le-trans'}
+use Rattle.numeric.proofs.Facts.{zero-exponent}
+use Rattle.numeric.proofs.Picks.{rounded-le}
+use Rattle.numeric.proofs.Round.{round-neg, neg-neg}
 use Rattle.numeric.proofs.Values.{add-values, value-below, value-above, nothing-less, whole-of, rounded-of}
 
 -- 0.5, in either format
@@ -113,3 +117,118 @@ large f (fin false (suc m) (negsuc j)) n p e h =
   where
     twice : (n a d : ℕ) → 2 ≤ d → n ≤ a / d → n * 2 ≤ a
     twice n a d D g = le-trans (mul-le-mul-left n D) (le-div-iff-mul-le (omega arith) .0 g)
+
+-- ---- to a float of the format: below 2^(prec - 1)
+abbrev pub limit : Format → Float
+limit binary32 = fin false 1 (pos 23)
+limit binary64 = fin false 1 (pos 52)
+
+abbrev nought : Float
+nought = fin false 0 (pos 0)
+
+limit-rounded : (f : Format) → rounded (limit f) * 2 ≡ 2 ^ prec f
+unfolding rounded
+limit-rounded binary32 = refl
+limit-rounded binary64 = refl
+
+pub small-rounded : (f : Format) (x : Float) → T (lt x (limit f)) → rounded x * 2 ≤ 2 ^ prec f
+small-rounded f x h = le-trans (mul-le-mul-right 2 (rounded-le x (limit f) (le-of-lt x (limit f) h))) (le-of-eq (limit-rounded f))
+
+pub away-small : (f : Format) (x : Float) → T (lt nought x) → T (lt x (limit f)) → ofInt f (pos (rounded x)) ≡ halfAway f x
+unfolding rounded halfAway ofInt lt
+away-small f nan h k = absurd h
+away-small f (inf true) h k = absurd h
+away-small f (inf false) h k = absurd (none f k)
+  where
+    none : (f : Format) → T (lt (inf false) (limit f)) → ⊥
+    none binary32 t = t
+    none binary64 t = t
+away-small f (fin true m e) h k = absurd h
+away-small f (fin false m e) h k =
+    ap (λ (z : ℕ). round f false z 1) (kept f ((m * up e * 2 + down e) / (down e * 2)) (small-rounded f (fin false m e) k))
+  where
+    kept : (f : Format) (H : ℕ) → min H (2 ^ 64 - 1) * 2 ≤ 2 ^ prec f → min H (2 ^ 64 - 1) ≡ H
+    kept binary32 H h = omega arith
+    kept binary64 H h = omega arith
+
+-- the mirror
+pub away-neg : (f : Format) (x : Float) → neg (halfAway f (neg x)) ≡ halfAway f x
+unfolding neg halfAway
+away-neg f nan = refl
+away-neg f (inf true) = refl
+away-neg f (inf false) = refl
+away-neg f (fin true m e) = sym (round-neg f ((m * up e * 2 + down e) / (down e * 2)) 1)
+away-neg f (fin false m e) = ap neg (round-neg f ((m * up e * 2 + down e) / (down e * 2)) 1) ∙ neg-neg (round f false ((m * up e * 2 + down e) / (down e * 2)) 1)
+
+pub neg-above : (x : Float) → T (lt x nought) → T (lt nought (neg x))
+unfolding lt neg
+neg-above nan h = absurd h
+neg-above (inf true) h = tt
+neg-above (inf false) h = absurd h
+neg-above (fin true m e) h = lt→ltb (0 * down e) (m * up e * 1) (omega (arith, ltb→lt 0 (m * up e * 1 + 0 * down e) h))
+neg-above (fin false m e) h = absurd (none-below (m * up e) (down e) (ltb→lt (m * up e * 1) (0 * down e) h))
+  where
+    none-below : (a d : ℕ) → a * 1 < 0 * d → ⊥
+    none-below a d h = omega arith
+
+-- from 2^(prec - 1) on
+exact : (f : Format) (m k : ℕ) → m < 2 ^ prec f → m * 2 ^ k < 2 ^ suc (emax f) → HasValue (round f false (m * 2 ^ k) 1) false (m * 2 ^ k) 1
+exact f m k h g =
+    let l = low f in
+    let e : m * 2 ^ k * 2 ^ l ≡ m * 2 ^ (k + l) = mul-assoc m (2 ^ k) (2 ^ l) ∙ ap (λ (z : ℕ). m * z) (sym (pow-add 2 k l)) in
+    round-exact f false (m * 2 ^ k) 1 m (k + l) (lit< tt) h
+    (lt-of-lt-of-le (lt-of-le-of-lt (le-of-eq (sym e)) (mul-lt-mul-of-pos-right {k = 2 ^ l} g (pow-pos l))) (le-of-eq (mul-comm (2 ^ suc (emax f)) (2 ^ l) ∙ sym (pow-add 2 l (suc (emax f))))))
+    (e ∙ sym (mul-one (m * 2 ^ (k + l))))
+
+whole-half : (N : ℕ) → (N * 2 + 1) / (1 * 2) ≡ N
+whole-half N = omega arith
+
+too-few : (f : Format) (m k : ℕ) → m < 2 ^ prec f → T (not (lt (fin false m (negsuc k)) (limit f))) → ⊥
+unfolding lt
+too-few binary32 m k h g = let a : 2 ≤ 2 ^ suc k = pow-mono {i = 1} {j = suc k} (suc-le-suc zero-le) in omega (arith, nltb→le (m * 1 * 1) (8388608 * 2 ^ suc k) g)
+too-few binary64 m k h g = let a : 2 ≤ 2 ^ suc k = pow-mono {i = 1} {j = suc k} (suc-le-suc zero-le) in omega (arith, nltb→le (m * 1 * 1) (4503599627370496 * 2 ^ suc k) g)
+
+pub away-large : (f : Format) (x : Float) → T (fits f x) → T (lt nought x) → T (not (lt x (limit f))) → x ≡ halfAway f x
+unfolding fits lt halfAway
+away-large f nan p h k = refl
+away-large f (inf s) p h k = refl
+away-large f (fin true m e) p h k = absurd h
+away-large f (fin false zero e) p h k = absurd (nothing (up e) (down e) (ltb→lt (0 * down e) (0 * up e * 1) h))
+  where
+    nothing : (u d : ℕ) → 0 * d < 0 * u * 1 → ⊥
+    nothing u d h = omega arith
+away-large f (fin false (suc m) (pos j)) p h k =
+    let N = suc m * 2 ^ j in
+    let A = eqb (suc m % 2) 1 && ltb (suc m) (2 ^ prec f) in
+    let C = A && leb 1 (2 ^ low f) in
+    let D = ltb N (2 ^ suc (emax f) * 1) in
+    let v = exact f (suc m) j (ltb→lt (suc m) (2 ^ prec f) (and-r (eqb (suc m % 2) 1) (ltb (suc m) (2 ^ prec f)) (and-l A (leb 1 (2 ^ low f)) (and-l C D p))))
+    (lt-of-lt-of-le (ltb→lt N (2 ^ suc (emax f) * 1) (and-r C D p)) (le-of-eq (mul-one (2 ^ suc (emax f))))) in
+    whole-unique f (fin false (suc m) (pos j)) (round f false N 1) false N p (round-fits f false N 1) (refl, refl) v
+    ∙ ap (λ (q : ℕ). round f false q 1) (sym (whole-half N))
+away-large f (fin false (suc m) (negsuc j)) p h k =
+    let A = eqb (suc m % 2) 1 && ltb (suc m) (2 ^ prec f) in
+    let B = leb (2 ^ suc j) (2 ^ low f) in
+    let D = ltb (suc m * 1) (2 ^ suc (emax f) * 2 ^ suc j) in
+    absurd (too-few f (suc m) j (ltb→lt (suc m) (2 ^ prec f) (and-r (eqb (suc m % 2) 1) (ltb (suc m) (2 ^ prec f)) (and-l A B (and-l (A && B) D p)))) k)
+
+pub away-large-neg : (f : Format) (x : Float) → T (fits f x) → T (lt x nought) → T (not (lt (neg x) (limit f))) → x ≡ halfAway f x
+away-large-neg f x p h k = sym (neg-neg x) ∙ ap neg (away-large f (neg x) (neg-fits f x p) (neg-above x h) k) ∙ away-neg f x
+
+-- either zero, and a NaN
+pub away-zero : (f : Format) (x : Float) → T (fits f x) → T (not (lt nought x)) → T (not (lt x nought)) → x ≡ halfAway f x
+unfolding lt halfAway round
+away-zero f nan p h k = refl
+away-zero f (inf true) p h k = refl
+away-zero f (inf false) p h k = refl
+away-zero f (fin s zero e) p h k = subst (λ (d : ℤ). fin s 0 d ≡ halfAway f (fin s 0 d)) (sym (zero-exponent f s e p)) (at f s)
+  where
+    at : (f : Format) (s : Bool) → fin s 0 (pos 0) ≡ halfAway f (fin s 0 (pos 0))
+    at binary32 true = refl
+    at binary32 false = refl
+    at binary64 true = refl
+    at binary64 false = refl
+away-zero f (fin false (suc m) e) p h k =
+    absurd (omega (arith, nltb→le (0 * down e) (suc m * up e * 1) h, zero-mul (down e), mul-pos {m = suc m} {n = up e} (suc-le-suc zero-le) (up-pos e)))
+away-zero f (fin true (suc m) e) p h k =
+    absurd (omega (arith, nltb→le 0 (suc m * up e * 1 + 0 * down e) k, mul-pos {m = suc m} {n = up e} (suc-le-suc zero-le) (up-pos e)))

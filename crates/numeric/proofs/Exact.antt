@@ -1,42 +1,23 @@
 -- Sums of counts are exact: the source's float sums in Clahe are the definitions' whole-number sums. Assumes nothing.
 use mathlib.Core.Path.{_≡_, sym, ap, _∙_}
-use mathlib.Core.Bool.{true, false, true≢false}
+use mathlib.Core.Bool.{false}
 use mathlib.Core.List.{List, [], _∷_}
 use Prim.Native.Nat.{ℕ, _+_, _*_, _^_, _≤_, _<_}
-use native.Mathlib.Nat.{mul-one, mul-assoc, mul-comm, add-mul, add-assoc, mul-pos, add-zero}
+use native.Mathlib.Nat.{add-assoc, add-zero}
 use native.Mathlib.Omega.{arith}
 use lib.Dec.{le→leb, lit<}
-use lib.Ieee.{Float, nan, inf, fin, binary64, up, down, add, sum, round, ofInt, toUnsigned, inFloat}
-use lib.Ieee.Back.{round-whole, unsigned-back}
-use lib.Ieee.Exact.{HasValue}
-use lib.Ieee.Fits.{down-pos}
-use lib.Ieee.Scale.{round-same}
+use lib.Ieee.{Float, binary64, add, round, ofInt, toUnsigned, inFloat}
+use lib.Ieee.Back.{unsigned-back}
 use Rattle.spec.specs.Floats.{ofCount}
 use Rattle.spec.specs.Lists.{sumOf}
-
-cross : (x y a b c d : ℕ) → x * 1 ≡ a * c → y * 1 ≡ b * d → (x * d + y * c) * 1 ≡ (a + b) * (c * d)
-cross x y a b c d p q =
-    mul-one (x * d + y * c)
-    ∙ ap (λ (z : ℕ). z * d + y * c) (sym (mul-one x) ∙ p) ∙ ap (λ (z : ℕ). a * c * d + z * c) (sym (mul-one y) ∙ q)
-    ∙ ap (λ (z : ℕ). z + b * d * c) (mul-assoc a c d) ∙ ap (λ (z : ℕ). a * (c * d) + z) (mul-assoc b d c ∙ ap (λ (z : ℕ). b * z) (mul-comm d c))
-    ∙ sym (add-mul a b (c * d))
-
-sum-of-values : (x y : Float) (a b : ℕ) → HasValue x false a 1 → HasValue y false b 1 → add binary64 x y ≡ round binary64 false (a + b) 1
-unfolding add sum
-sum-of-values nan y a b p q = absurd p
-sum-of-values (inf s) y a b p q = absurd p
-sum-of-values (fin s m e) nan a b p q = absurd q
-sum-of-values (fin s m e) (inf t) a b p q = absurd q
-sum-of-values (fin true m e) (fin t n d) a b p q = absurd (true≢false (p .0))
-sum-of-values (fin false m e) (fin true n d) a b p q = absurd (true≢false (q .0))
-sum-of-values (fin false m e) (fin false n d) a b p q =
-    round-same binary64 false (m * up e * down d + n * up d * down e) (down e * down d) (a + b) 1 (mul-pos (down-pos e) (down-pos d)) (lit< tt)
-    (cross (m * up e) (n * up d) a b (down e) (down d) (p .1) (q .1))
+use Rattle.numeric.proofs.Values.{add-values, count-value}
 
 -- two counts added as f64
 pub count-add : (a b : ℕ) → a ≤ 2 ^ 53 → b ≤ 2 ^ 53 → add binary64 (ofCount a) (ofCount b) ≡ ofCount (a + b)
 unfolding ofInt
-count-add a b h g = sum-of-values (round binary64 false a 1) (round binary64 false b 1) a b (round-whole binary64 false a h) (round-whole binary64 false b g)
+count-add a b h g =
+    add-values binary64 (ofCount a) (ofCount b) a b 1 1 (lit< tt) (lit< tt) (count-value a h) (count-value b g)
+    ∙ ap (λ (n : ℕ). round binary64 false n 1) (let e : a * 1 + b * 1 ≡ a + b = omega arith in e)
 
 -- the source's running sum: acc += hist[i] as f64
 abbrev pub sourceSum : Float → List ℕ → Float

@@ -13,3 +13,4 @@ pub mod Rooted
 pub mod Correct
 pub mod Alike
 pub mod Ends
+pub mod Within

@@ -1,15 +1,17 @@
--- `larger`, `smaller` and `held` keep the order and lie where they should, and a cast to an unsigned integer keeps the order. Assumes nothing.
-use mathlib.Core.Path.{sym, subst}
-use Prim.Native.Nat.{ℕ, _-_, _*_, _/_, _^_, _≤_, _<_, zero-le}
-use native.Mathlib.Nat.{zero-div}
+-- `larger`, `smaller` and `held` keep the order and lie where they should, and casts and rounding keep the order. Assumes nothing.
+use mathlib.Core.Path.{_≡_, sym, subst}
+use Prim.Native.Nat.{ℕ, _+_, _-_, _*_, _/_, _^_, _≤_, _<_, zero-le}
+use native.Mathlib.Nat.{zero-div, div-eq-of-lt, add-mul, mul-assoc, mul-comm, mul-left-comm, mul-pos}
 use native.Mathlib.Omega.{arith}
 use mathlib.Core.Bool.{Bool, true, false, not, cond}
-use lib.Dec.{T}
-use lib.Ieee.{Float, nan, inf, fin, up, down, lt, le, toUnsigned}
+use lib.Dec.{T, lit<}
+use lib.IntN.{pos}
+use lib.Ieee.{Float, nan, inf, fin, Format, binary64, up, down, lt, le, ofInt, toUnsigned}
 use lib.Ieee.Casts.{toUnsigned-lt}
 use lib.Ieee.Fits.{down-pos}
 use lib.Ieee.Nearest.{div-mono}
-use Rattle.spec.specs.Floats.{larger, smaller, held}
+use lib.Ieee.Order.{round-mono}
+use Rattle.spec.specs.Floats.{ofCount, larger, smaller, held, rounded}
 use Rattle.numeric.proofs.Order.{Number, le→cross, le-left, le-right, le-refl, le-trans, le-of-lt, le-of-not-lt, only-top}
 
 -- ---- the larger
@@ -96,3 +98,39 @@ toUnsigned-le w (fin false m e) (fin false n d) h =
     let k = le→cross (fin false m e) (fin false n d) tt tt h in
     let a : m * up e / down e ≤ n * up d / down d = div-mono (m * up e) (down e) (n * up d) (down d) (down-pos e) (down-pos d) (omega arith) in
     omega arith
+
+-- ---- `round` and then `as u64`
+half-mono : (a c b d : ℕ) → 0 < c → 0 < d → a * d ≤ b * c → (a * 2 + c) / (c * 2) ≤ (b * 2 + d) / (d * 2)
+half-mono a c b d C D h = div-mono (a * 2 + c) (c * 2) (b * 2 + d) (d * 2) (mul-pos C (lit< tt)) (mul-pos D (lit< tt)) (wide a c b d h)
+  where
+    wide : (a c b d : ℕ) → a * d ≤ b * c → (a * 2 + c) * (d * 2) ≤ (b * 2 + d) * (c * 2)
+    wide a c b d h = simp (add-mul, mul-assoc, mul-comm, mul-left-comm) (omega (arith, simp (mul-comm) at h))
+
+pub rounded-le : (x y : Float) → T (le x y) → rounded x ≤ rounded y
+unfolding rounded le
+rounded-le nan y h = absurd h
+rounded-le (inf true) y h = zero-le
+rounded-le (inf false) y h = subst (λ (z : Float). 2 ^ 64 - 1 ≤ rounded z) (sym (only-top y h)) (omega arith)
+rounded-le (fin s m e) nan h = absurd h
+rounded-le (fin s m e) (inf true) h = absurd h
+rounded-le (fin true m e) (inf false) h = zero-le
+rounded-le (fin false m e) (inf false) h = omega arith
+rounded-le (fin true m e) (fin t n d) h = zero-le
+rounded-le (fin false m e) (fin true n d) h =
+    let k = le→cross (fin false m e) (fin true n d) tt tt h in
+    let a = half-mono (m * up e) (down e) 0 (down d) (down-pos e) (down-pos d) (omega arith) in
+    let D = down-pos d in
+    let b : (0 * 2 + down d) / (down d * 2) ≡ 0 = div-eq-of-lt (omega arith) in
+    omega arith
+rounded-le (fin false m e) (fin false n d) h =
+    let k = le→cross (fin false m e) (fin false n d) tt tt h in
+    let a = half-mono (m * up e) (down e) (n * up d) (down d) (down-pos e) (down-pos d) (omega arith) in
+    omega arith
+
+-- ---- `as f64`, `as f32`
+pub ofInt-le : (f : Format) (a b : ℕ) → a ≤ b → T (le (ofInt f (pos a)) (ofInt f (pos b)))
+unfolding ofInt
+ofInt-le f a b h = round-mono f a 1 b 1 (lit< tt) (lit< tt) (omega arith)
+
+pub count-le : (a b : ℕ) → a ≤ b → T (le (ofCount a) (ofCount b))
+count-le = ofInt-le binary64

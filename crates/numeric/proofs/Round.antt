@@ -14,6 +14,14 @@ use lib.Ieee.Order.{round-mono, kept, drop}
 use Rattle.numeric.proofs.Order.{Number, le→cross, cross→le, bottom, top, none}
 
 -- ---- the mirror
+pub neg-neg : (x : Float) → neg (neg x) ≡ x
+unfolding neg
+neg-neg nan = refl
+neg-neg (inf true) = refl
+neg-neg (inf false) = refl
+neg-neg (fin true m e) = refl
+neg-neg (fin false m e) = refl
+
 odd-neg : (d q k l : ℕ) → odd d true q k l ≡ neg (odd d false q k l)
 unfolding odd neg
 odd-neg d zero k l = refl

@@ -5,6 +5,7 @@ ghost use lib.Dec.{T};
 ghost use lib.Ieee.{binary32, binary64, toUnsigned, ofBits, le};
 ghost use Rattle.spec.specs.Floats.{zero64, larger, smaller, held, magnitude, rounded};
 ghost use Rattle.spec.specs.Value.{full16};
+ghost use Rattle.numeric.specs.Round.{halfAway};
 ghost use Rattle.spec.specs.Root.{wholeRoot, rootOf, root};
 
 // `f64::max`: a NaN in the first place loses, and of two equals the second is given.
@@ -104,6 +105,44 @@ pub fn round_f32_as_u64(x: f32) -> u64
         }
     }
     n
+}
+
+// `f64::round`: half away from zero. A zero keeps its sign, and from 2^52 on every f64 is whole.
+pub fn round_f64(x: f64) -> f64
+    ensures { λ r. ⌜ r ≡ halfAway binary64 x ⌝ }
+{
+    if x > 0.0 {
+        if x < 4503599627370496.0 {
+            return round_f64_as_u64(x) as f64;
+        }
+        return x;
+    }
+    if x < 0.0 {
+        if -x < 4503599627370496.0 {
+            return -(round_f64_as_u64(-x) as f64);
+        }
+        return x;
+    }
+    x
+}
+
+// `f32::round`: likewise. From 2^23 on every f32 is whole.
+pub fn round_f32(x: f32) -> f32
+    ensures { λ r. ⌜ r ≡ halfAway binary32 x ⌝ }
+{
+    if x > 0.0 {
+        if x < 8388608.0 {
+            return round_f32_as_u64(x) as f32;
+        }
+        return x;
+    }
+    if x < 0.0 {
+        if -x < 8388608.0 {
+            return -(round_f32_as_u64(-x) as f32);
+        }
+        return x;
+    }
+    x
 }
 
 // `f64::from_bits`: every NaN pattern gives the NaN.

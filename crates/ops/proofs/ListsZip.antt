@@ -1,7 +1,7 @@
 -- A loop that writes f of the elements of two lists, place by place, to a third. Assumes nothing.
 use mathlib.Core.Path.{_≡_, refl, sym, ap, _∙_}
 use mathlib.Core.List.{List, [], _∷_, _++_, zipWith}
-use Prim.Native.Nat.{ℕ, zero, suc, _+_, _≤_, _<_}
+use Prim.Native.Nat.{ℕ, suc, _+_, _≤_, _<_}
 use native.Mathlib.Nat.{suc-inj}
 use native.Mathlib.Omega.{arith}
 use native.Mathlib.Numerals.{add-one}
@@ -36,9 +36,9 @@ module _ {A B C : Type 0} (f : A → B → C) (d : A) (d′ : B) (xs : List A) (
         simp length-set (omega arith),
         length-set to i c ∙ t .1,
         rw (add-one)
-          (take-suc-set to i c h ∙ ap (λ (z : List C). z ++ (c ∷ [])) (t .2) ∙ ap (λ (z : C). zipWith f (take i xs) (take i ys) ++ (z ∷ [])) v
-          ∙ sym (zip-snoc f (take i xs) (take i ys) (getD xs i d) (getD ys i d′) (length-take-le i ys (omega arith) ∙ sym (length-take-le i xs (omega arith))))
-          ∙ sym (ap (λ (z : List A). zipWith f z (take (suc i) ys)) (take-suc xs i d j) ∙ ap (λ (z : List B). zipWith f (take i xs ++ (getD xs i d ∷ [])) z) (take-suc ys i d′ k))),
+            (take-suc-set to i c h ∙ ap (λ (z : List C). z ++ (c ∷ [])) (t .2) ∙ ap (λ (z : C). zipWith f (take i xs) (take i ys) ++ (z ∷ [])) v
+            ∙ sym (zip-snoc f (take i xs) (take i ys) (getD xs i d) (getD ys i d′) (length-take-le i ys (omega arith) ∙ sym (length-take-le i xs (omega arith))))
+            ∙ sym (ap (λ (z : List A). zipWith f z (take (suc i) ys)) (take-suc xs i d j) ∙ ap (λ (z : List B). zipWith f (take i xs ++ (getD xs i d ∷ [])) z) (take-suc ys i d′ k))),
       )
 
   pub finish : (to : List C) (i : ℕ) → length ys ≡ length xs → Done to i → length to ≤ i → to ≡ zipWith f xs ys

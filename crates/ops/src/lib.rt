@@ -7,14 +7,18 @@ ghost use Rattle.spec.specs.Answer.{firstOf, number, replyNumber, after};
 ghost use Rattle.spec.specs.Refusals.{tooLong, unlike};
 ghost use Rattle.spec.specs.Ops.{sumOp, differenceOp, guarded, ratioOp, logRatioOp, normalisedOp, opCall};
 ghost use Rattle.ops.specs.Chosen.{opOf};
-
-use types::{PolarizationOperation, Reply};
+use types::PolarizationOperation;
+use types::Reply;
 
 // a over b, or 0 unless the size of b exceeds 1e-10.
 fn guarded_ratio(a: f32, b: f32) -> f32
     ensures { λ r. ⌜ r ≡ guarded a b ⌝ }
 {
-    if numeric::abs_f32(b) > 1e-10 { a / b } else { 0.0 }
+    if numeric::abs_f32(b) > 1e-10 {
+        a / b
+    } else {
+        0.0
+    }
 }
 
 // The operation on one value of each list.

@@ -140,10 +140,10 @@ pub fn scale_u16_to_u8(data: &[u16], out: &mut [u8]) -> Reply
 }
 
 // The stretched byte of each byte.
-fn fill_bytes(lo: u8, hi: u8, table: &mut [u8; 256])
+fn fill_bytes(lo: u16, hi: u16, table: &mut [u8; 256])
     ensures { λ _. ⌜ Stretches lo hi 256 (now (table .exit)) ⌝ }
 {
-    fill_table(256, lo as u16, hi as u16, table);
+    fill_table(256, lo, hi, table);
 }
 
 // Each byte's entry, in place.
@@ -159,7 +159,7 @@ fn look_up_bytes(bytes: &mut [u8], table: &[u8; 256])
 }
 
 // Bytes stretched in place between given ends. Between 0 and 255 nothing changes.
-pub fn stretch_bytes(bytes: &mut [u8], lo: u8, hi: u8)
+pub fn stretch_bytes(bytes: &mut [u8], lo: u16, hi: u16)
     ensures { λ _. ⌜ now (bytes .exit) ≡ map (stretchByte lo hi) (now (bytes .entry)) ⌝ }
 {
     if lo == 0 {

@@ -64,15 +64,31 @@ fn main() -> io::Result<()> {
 
 #[cfg(test)]
 mod tests {
+    use std::path::PathBuf;
+
     use super::*;
 
-    /// The files in the repository's vectors/ are what this program writes.
+    fn in_repository(folder: &str) -> PathBuf {
+        Path::new(env!("CARGO_MANIFEST_DIR")).join("../..").join(folder)
+    }
+
+    /// The files in the repository's crates/vectors/data are what this program writes.
     #[test]
     fn stored_sample_is_written_by_this_program() {
-        let folder = Path::new(env!("CARGO_MANIFEST_DIR")).join("../../vectors");
+        let folder = in_repository("crates/vectors/data");
         for part in parts() {
             let stored = fs::read(folder.join(part.name).with_extension("bin")).unwrap();
             assert!(stored == part.bytes, "{}.bin", part.name);
+        }
+    }
+
+    /// The proofs of the crate `scenes` are what this program writes.
+    #[test]
+    fn worked_scenes_are_written_by_this_program() {
+        let folder = in_repository("crates/scenes/proofs");
+        for (name, text) in scenes::files(SEED) {
+            let stored = fs::read_to_string(folder.join(&name)).unwrap();
+            assert!(stored == text, "{name}");
         }
     }
 }

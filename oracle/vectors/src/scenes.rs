@@ -1,4 +1,5 @@
 //! Worked scenes as declarations that compute: what a definition of the crate `spec` gives is the list of numbers that the Rust gave.
+use std::collections::HashSet;
 use std::fmt::{Display, LowerHex, Write};
 use std::path::Path;
 use std::{fs, io};
@@ -13,26 +14,51 @@ use crate::tiles;
 
 const WORK: usize = oracle::table::CLAHE_WORK;
 
-const HEAD: &str = "\
-use mathlib.Core.List.{List, [], _∷_, map}
-use lib.Dec.{T}
-use lib.Ieee.{binary64, toBits}
-use Rattle.types.specs.declared.AutoscaleStrategy.the-variants.{Standard, Robust, Adaptive, Equalized, Clahe, Tamed, Default}
-use Rattle.types.specs.declared.SyntheticRgbMode.the-variants.{Default as Plain, RgbRatio, SarUrban, Enhanced}
-use Rattle.spec.specs.Pixels.{pixels}
-use Rattle.spec.specs.Statistics.{statisticsOf, statisticsCall}
-use Rattle.spec.specs.Window.{windowCall}
-use Rattle.spec.specs.Grey.{grey8, grey16}
-use Rattle.spec.specs.Stretch.{stretchCall}
-use Rattle.spec.specs.Colour.{composition}
-use Rattle.spec.specs.Clahe.{clip, sumAt}
-use Rattle.spec.specs.Padding.{paddingCall}
-use Rattle.spec.specs.Marks.{marksCall}
-use Rattle.spec.specs.Ops.{opCall, sumOp, differenceOp, ratioOp, logRatioOp, normalisedOp}
-use Rattle.spec.specs.Picture.{pictureOf}
-use Rattle.starred.specs.Computing.{computing}
-use Rattle.scenes.specs.Tests.{same, floats, floats32, statAnswer, windowBits, allWindows, bytes, words, pictureBytes, lent}
-";
+/// Where the names in the declarations come from; a file imports those that it has.
+const NAMES: [(&str, &[&str]); 16] = [
+    ("mathlib.Core.List", &["[]", "_∷_", "map"]),
+    ("lib.Dec", &["T"]),
+    ("lib.Ieee", &["binary64", "toBits"]),
+    (
+        "Rattle.types.specs.declared.AutoscaleStrategy.the-variants",
+        &["Standard", "Robust", "Adaptive", "Equalized", "Clahe", "Tamed", "Default"],
+    ),
+    ("Rattle.types.specs.declared.SyntheticRgbMode.the-variants", &["Default as Plain", "RgbRatio", "SarUrban", "Enhanced"]),
+    ("Rattle.spec.specs.Pixels", &["pixels"]),
+    ("Rattle.spec.specs.Statistics", &["statisticsOf", "statisticsCall"]),
+    ("Rattle.spec.specs.Window", &["windowCall"]),
+    ("Rattle.spec.specs.Grey", &["grey8", "grey16"]),
+    ("Rattle.spec.specs.Stretch", &["stretchCall"]),
+    ("Rattle.spec.specs.Colour", &["composition"]),
+    ("Rattle.spec.specs.Clahe", &["clip", "sumAt"]),
+    ("Rattle.spec.specs.Padding", &["paddingCall"]),
+    ("Rattle.spec.specs.Marks", &["marksCall"]),
+    ("Rattle.spec.specs.Ops", &["opCall", "sumOp", "differenceOp", "ratioOp", "logRatioOp", "normalisedOp"]),
+    ("Rattle.spec.specs.Picture", &["pictureOf"]),
+];
+
+const TESTS: &[&str] = &["same", "floats", "floats32", "statAnswer", "windowBits", "allWindows", "bytes", "words", "pictureBytes", "lent"];
+
+/// The `use` lines of a file with these declarations.
+fn imports(declarations: &str) -> String {
+    let lines = declarations.lines().filter(|l| !l.starts_with("--"));
+    let words: HashSet<&str> = lines.flat_map(|l| l.split([' ', '(', ')', '.'])).collect();
+    let has = |name: &&&str| {
+        let word = name.rsplit(' ').next().unwrap().trim_matches('_');
+        words.contains(word)
+    };
+    let line = |module: &str, names: &[&str]| {
+        let used: Vec<&str> = names.iter().filter(has).copied().collect();
+        if used.is_empty() {
+            String::new()
+        } else {
+            format!("use {module}.{{{}}}\n", used.join(", "))
+        }
+    };
+    let mut text: String = NAMES.iter().map(|(module, names)| line(module, names)).collect();
+    text += "use Rattle.starred.specs.Computing.{computing}\n";
+    text + &line("Rattle.scenes.specs.Tests", TESTS)
+}
 
 fn list<T: Display>(elements: impl IntoIterator<Item = T>) -> String {
     elements.into_iter().fold("(".to_string(), |text, e| text + &format!("{e} ∷ ")) + "[])"
@@ -73,16 +99,14 @@ fn mode_name(mode: SyntheticRgbMode) -> String {
 /// One file of declarations.
 struct File {
     name: &'static str,
+    title: &'static str,
     text: String,
     count: usize,
 }
 
 impl File {
-    fn new(name: &'static str, title: &str) -> Self {
-        let text = format!(
-            "-- {title} Written by oracle/vectors; the expected numbers are the Rust's. Closed computations: assumes nothing.\n{HEAD}"
-        );
-        File { name, text, count: 0 }
+    fn new(name: &'static str, title: &'static str) -> Self {
+        File { name, title, text: String::new(), count: 0 }
     }
 
     fn check(&mut self, label: &str, got: String, expected: String) {
@@ -149,9 +173,9 @@ impl File {
         self.check("picture", got, expected);
     }
 
-    fn write(self, folder: &Path) -> io::Result<()> {
-        println!("{:10} {:3} scenes {:7} bytes", self.name, self.count, self.text.len());
-        fs::write(folder.join(self.name).with_extension("antt"), self.text)
+    fn whole(&self) -> String {
+        let (title, uses, text) = (self.title, imports(&self.text), &self.text);
+        format!("-- {title} Written by oracle/vectors; the expected numbers are the Rust's. Closed computations: assumes nothing.\n{uses}{text}")
     }
 }
 
@@ -179,10 +203,9 @@ fn bands(rng: &mut Rng) -> File {
     f.windows(&Scene::row(&[10.0, 9.5, 9.25, 9.0, 8.5, -32.0, -25.0, 9.75]));
     let tail: Vec<f64> = (0..20).map(|k| f64::from(k) * 0.1).chain([9.0]).collect();
     f.windows(&Scene::row(&tail));
-    f.note("low above high: by whole decibels, and by the roundings of 308 values around 512, of which every grey is then 0");
+    f.note("low above high: by whole decibels, and by the roundings of 308 values around 512");
     f.window(Standard, &bands::inverted_standard());
     f.window(Tamed, &bands::inverted_tamed());
-    f.grey16(Tamed, &bands::inverted_tamed(), 308, 0);
 
     let normal = Scene::new(2, 5, &[-20.0, -13.5, -2.25, 4.0, -8.0, f64::NAN, -17.0, -4.75, 1.0, -11.5], &[1, 1, 1, 1, 1, 0, 1, 1, 1, 1]);
     for strategy in STRATEGIES {
@@ -304,11 +327,20 @@ fn beside() -> File {
     f
 }
 
-pub fn write(folder: &Path, seed: u64) -> io::Result<()> {
-    fs::create_dir_all(folder)?;
+/// The files of the crate's proofs, by name.
+pub fn files(seed: u64) -> Vec<(String, String)> {
     let mut rng = Rng::new(seed);
     let files = [beside(), bands(&mut rng), pictures(&mut rng), tiles_file()];
-    let names: Vec<String> = files.iter().map(|f| format!("pub mod {}\n", f.name)).collect();
-    fs::write(folder.join("Lib.antt"), names.concat())?;
-    files.into_iter().try_for_each(|f| f.write(folder))
+    let names: String = files.iter().map(|f| format!("pub mod {}\n", f.name)).collect();
+    let root = ("Lib.antt".to_string(), names);
+    files.iter().map(|f| (format!("{}.antt", f.name), f.whole())).chain([root]).collect()
+}
+
+pub fn write(folder: &Path, seed: u64) -> io::Result<()> {
+    fs::create_dir_all(folder)?;
+    for (name, text) in files(seed) {
+        println!("{name:15} {:3} scenes {:7} bytes", text.matches("= tt\n").count(), text.len());
+        fs::write(folder.join(name), text)?;
+    }
+    Ok(())
 }

@@ -45,7 +45,7 @@ loop-again c =
       omega (arith, length-set b (l .loop .i) (c .mark-of .result)),
       length-set b (l .loop .i) (c .mark-of .result) ∙ l .loop .inv .1,
       step markOf nan (now (l .before .before .before .args .processed)) b (l .loop .i) (c .mark-of .result) (omega arith) (l .loop .inv .1) (c .mark-of .ensures)
-      (l .loop .inv .2),
+          (l .loop .inv .2),
     )
 
 same-length : tie.Need-same-length Inv-loop μ-loop

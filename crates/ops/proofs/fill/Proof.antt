@@ -1,11 +1,10 @@
 -- `ops::fill` meets its contract. The invariant: the values before i are those of the operation. Assumes nothing.
-use mathlib.Core.Path.{refl, _∙_}
+use mathlib.Core.Path.{refl}
 use mathlib.Core.List.{zipWith}
 use Prim.Native.Nat.{_-_}
 use native.Mathlib.Omega.{arith}
 use lib.Ieee.{nan}
-use lib.ListN.{length, length-set}
-use denote.Ref.{now}
+use lib.ListN.{length}
 use borrow.Author.Needs.{needs}
 use Rattle.ops.specs.Chosen.{opOf}
 use Rattle.ops.proofs.ListsZip.{Done, step, finish}

@@ -1,5 +1,4 @@
 -- `ops::guarded_ratio` meets its contract. Assumes nothing.
-use mathlib.Core.Bool.{cond}
 use borrow.Author.Needs.{needs}
 use Rattle.spec.specs.Ops.{guarded}
 use Rattle.ops.proofs.guarded_ratio.Statement.{statement}

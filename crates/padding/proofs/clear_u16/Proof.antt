@@ -1,0 +1,41 @@
+-- `padding::clear_u16` meets its contract. The invariant: the places before i are 0. Assumes nothing.
+use mathlib.Core.Path.{refl}
+use Prim.Native.Nat.{_-_}
+use native.Mathlib.Omega.{arith}
+use lib.ListN.{length}
+use Rattle.padding.proofs.ListsFill.{Filled, step, finish}
+use Rattle.padding.proofs.clear_u16.Statement.{statement}
+use Rattle.padding.proofs.clear_u16.Tie as tie
+
+abbrev Inv-loop : tie.InvT-loop
+Inv-loop padded₀ i₀ padded i = Filled 0 (length padded₀) padded i
+
+abbrev μ-loop : tie.MeasureT-loop
+μ-loop padded₀ i₀ padded i = length padded₀ - i
+
+loop-holds : tie.Need-loop-holds Inv-loop μ-loop
+loop-holds c = (omega arith, refl, refl)
+
+mul-padded : tie.Need-mul-padded Inv-loop μ-loop
+mul-padded c = omega arith
+
+slice-write-padded : tie.Need-slice-write-padded Inv-loop μ-loop
+slice-write-padded c = omega arith
+
+add-i : tie.Need-add-i Inv-loop μ-loop
+add-i c = omega arith
+
+loop-less : tie.Need-loop-less Inv-loop μ-loop
+loop-less c = omega arith
+
+loop-again : tie.Need-loop-again Inv-loop μ-loop
+loop-again c = step 0 _ _ _ (omega arith) (c .before .loop .inv)
+
+same-length : tie.Need-same-length Inv-loop μ-loop
+same-length c = omega arith
+
+returns : tie.Need-returns Inv-loop μ-loop
+returns c = finish 0 _ _ _ (c .before .loop .inv) (c .loop-test .left)
+
+pub clear-u16-spec : {M : Type 1} → statement M
+clear-u16-spec = tie.close (tie.spec Inv-loop μ-loop loop-holds mul-padded slice-write-padded add-i loop-less loop-again same-length returns)

@@ -1,0 +1,79 @@
+-- `padding::place_rows_u16` meets its contract. The invariant: the rows before `row` are in place. Assumes nothing.
+use mathlib.Core.Path.{_≡_, sym, _∙_}
+use Prim.Native.Nat.{_≤_, _-_}
+use native.Mathlib.Omega.{arith}
+use denote.Ref.{now}
+use borrow.Author.Needs.{needs}
+use Rattle.padding.proofs.Lengths.{product}
+use Rattle.padding.proofs.Square.{Placed, placed-none, row-room, room, row-length, next, finish}
+use Rattle.padding.proofs.place_rows_u16.Statement.{statement}
+use Rattle.padding.proofs.place_rows_u16.Tie as tie
+
+abbrev Inv-loop : tie.InvT-loop
+Inv-loop rows cols u16-data padded₀ row₀ padded row = (row ≤ rows) × Placed rows cols u16-data padded row
+
+abbrev μ-loop : tie.MeasureT-loop
+μ-loop rows cols u16-data padded₀ row₀ padded row = rows - row
+
+loop-holds : tie.Need-loop-holds Inv-loop μ-loop
+loop-holds c = (omega arith, placed-none _ _ _ _ (c .before .before .pre .3))
+
+mul-src-offset : tie.Need-mul-src-offset Inv-loop μ-loop
+mul-src-offset c = omega (arith, product (c .before .loop .row) (c .before .before .before .before .args .cols) (omega arith) (omega arith))
+
+row-start-requires : tie.Need-row-start-requires Inv-loop μ-loop
+row-start-requires c κs = search needs
+
+add-copy-row-u16 : tie.Need-add-copy-row-u16 Inv-loop μ-loop
+add-copy-row-u16 c = omega (arith, product (c .before .before .loop .row) (c .before .before .before .before .before .args .cols) (omega arith) (omega arith))
+
+mul-copy-row-u16 : tie.Need-mul-copy-row-u16 Inv-loop μ-loop
+mul-copy-row-u16 c = omega (arith, product (c .before .before .loop .row) (c .before .before .before .before .before .args .cols) (omega arith) (omega arith))
+
+sub-copy-row-u16 : tie.Need-sub-copy-row-u16 Inv-loop μ-loop
+sub-copy-row-u16 c = search needs
+
+part-copy-row-u16-start : tie.Need-part-copy-row-u16-start Inv-loop μ-loop
+part-copy-row-u16-start c = search needs
+
+part-copy-row-u16-end : tie.Need-part-copy-row-u16-end Inv-loop μ-loop
+part-copy-row-u16-end c = omega (arith, row-room (c .before .before .before .before .before .args .rows) (c .before .before .before .before .before .args .cols) (c .before .before .loop .row) (omega arith))
+
+copy-row-u16-requires : tie.Need-copy-row-u16-requires Inv-loop μ-loop
+copy-row-u16-requires c κs =
+    let l = c .before .before .before .before in
+    let f = l .before .before .before in
+    let a = f .args in
+    let w = row-length (a .rows) (a .cols) (now (a .u16-data)) (f .pre .2) (l .loop .row) (omega arith) in
+    omega (arith, room (a .rows) (a .cols) (l .loop .row) (omega arith), l .loop .inv .1 .0, c .before .before .row-start .ensures)
+
+add-row : tie.Need-add-row Inv-loop μ-loop
+add-row c = omega arith
+
+loop-less : tie.Need-loop-less Inv-loop μ-loop
+loop-less c = omega arith
+
+loop-again : tie.Need-loop-again Inv-loop μ-loop
+loop-again c =
+    let l = c .before .before .before .before .before .before .before in
+    let f = l .before .before .before in
+    let a = f .args in (
+      omega arith,
+      next (a .rows) (a .cols) (now (a .u16-data)) (f .pre .2) (l .loop .row) (omega arith) (c .before .before .before .before .before .row-start .result) (l .loop .padded) _
+          (c .before .before .before .before .before .row-start .ensures) (l .loop .inv .1) (c .before .before .copy-row-u16 .ensures),
+    )
+
+same-length : tie.Need-same-length Inv-loop μ-loop
+same-length c = let f = c .before .before .before .before in c .before .loop .inv .1 .0 ∙ sym (placed-none (f .args .rows) (f .args .cols) (now (f .args .u16-data)) _ (f .pre .3) .0)
+
+returns : tie.Need-returns Inv-loop μ-loop
+returns c =
+    let a = c .before .before .before .before .args in
+    let e : c .before .loop .row ≡ a .rows = omega arith in
+    finish (a .rows) (a .cols) (now (a .u16-data)) _ (rw e at (c .before .loop .inv .1))
+
+pub place-rows-u16-spec : {M : Type 1} → statement M
+place-rows-u16-spec =
+    tie.close
+    (tie.spec Inv-loop μ-loop loop-holds mul-src-offset row-start-requires add-copy-row-u16 mul-copy-row-u16 sub-copy-row-u16 part-copy-row-u16-start part-copy-row-u16-end copy-row-u16-requires add-row
+    loop-less loop-again same-length returns)

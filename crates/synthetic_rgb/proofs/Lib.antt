@@ -1,0 +1,4 @@
+pub mod Rules
+pub mod Painted
+pub mod Counted
+pub mod Modes

@@ -1,0 +1,25 @@
+use borrow.Author.Needs.{needs}
+use Rattle.synthetic_rgb.proofs.blue.blue_at.Statement.{statement}
+use Rattle.synthetic_rgb.proofs.blue.blue_at.Tie as tie
+use Rattle.synthetic_rgb.proofs.blue.blue_at.Reads as reads
+use Rattle.synthetic_rgb.proofs.blue.blue_at.Lts as lts
+use Rattle.synthetic_rgb.proofs.blue.is_dark.Reads as is-dark-reads
+
+-- src/blue.rt:67:8
+is-dark-requires : tie.Need-is-dark-requires
+is-dark-requires c κs = search needs
+
+-- src/blue.rt:67:43
+cast-result : tie.Need-cast-result
+cast-result c = search needs
+
+-- src/blue.rt:63:1
+returns : tie.Need-returns
+returns c = rw (← c .before .is-dark .ensures, c .if1 .taken)
+
+-- src/blue.rt:63:1
+returns-2 : tie.Need-returns-2
+returns-2 c = rw (← c .before .is-dark .ensures, c .if1 .left)
+
+pub blue-at-spec : {M : Type 1} → statement M
+blue-at-spec = tie.close (tie.spec is-dark-requires cast-result returns returns-2)

@@ -1,0 +1,33 @@
+use borrow.Author.Tests.{le-leb, lt-leb}
+use borrow.Author.Needs.{needs}
+use Rattle.synthetic_rgb.proofs.blue.is_dark.Statement.{statement}
+use Rattle.synthetic_rgb.proofs.blue.is_dark.Tie as tie
+use Rattle.synthetic_rgb.proofs.blue.is_dark.Reads as reads
+use Rattle.synthetic_rgb.proofs.blue.is_dark.Lts as lts
+
+-- src/blue.rt:47:31
+enum-told : tie.Need-enum-told
+enum-told c = search needs
+
+-- src/blue.rt:48:33
+enum-known-kind : tie.Need-enum-known-kind
+enum-known-kind c = search needs
+
+-- src/blue.rt:43:1
+returns : tie.Need-returns
+returns c = rw (c .enum-told .given .1)
+
+-- src/blue.rt:43:1
+returns-2 : tie.Need-returns-2
+returns-2 c =
+    let a = c .before .before .before .before .args in
+    rw (c .before .before .kind .given .1, le-leb (a .v1) _ (c .if1 .taken))
+
+-- src/blue.rt:43:1
+returns-3 : tie.Need-returns-3
+returns-3 c =
+    let a = c .before .before .before .before .args in
+    rw (c .before .before .kind .given .1, lt-leb (a .v1) _ (c .if1 .left))
+
+pub is-dark-spec : {M : Type 1} → statement M
+is-dark-spec = tie.close (tie.spec enum-told enum-known-kind returns returns-2 returns-3)

@@ -1,0 +1,120 @@
+use mathlib.Core.Path.{_≡_}
+use Prim.Native.Nat.{ℕ, _+_, _*_, _-_, _^_, _≤_, _<_}
+use native.Mathlib.Omega.{arith}
+use native.Mathlib.Nat.{mul-le-mul}
+use lib.ListN.{length}
+use Rattle.synthetic_rgb.specs.Palette.{Reached}
+use borrow.Author.Needs.{needs}
+use Rattle.synthetic_rgb.proofs.blue.rank_from.Statement.{statement}
+use Rattle.synthetic_rgb.proofs.blue.rank_from.Tie as tie
+use Rattle.synthetic_rgb.proofs.blue.rank_from.Reads as reads
+use Rattle.synthetic_rgb.proofs.blue.rank_from.Lts as lts
+
+small : {x g : ℕ} → x < 65536 → g ≤ 263 → x * g < 2 ^ 64
+small {x} hx hg = let h : x * _ ≤ 65535 * 263 = mul-le-mul {n₂ = 65535} (omega arith) hg in omega arith
+
+abbrev Inv-loop : tie.InvT-loop
+Inv-loop thresholds r g from k₀ k =
+    Reached thresholds r g k
+
+abbrev μ-loop : tie.MeasureT-loop
+μ-loop thresholds r g from k₀ k = length thresholds - k
+
+loop-holds : tie.Need-loop-holds Inv-loop μ-loop
+loop-holds c = search needs
+
+mul-loop : tie.Need-mul-loop Inv-loop μ-loop
+mul-loop c = search needs
+
+add-loop : tie.Need-add-loop Inv-loop μ-loop
+add-loop c = search needs
+
+mul-wide-u16 : tie.Need-mul-wide-u16 Inv-loop μ-loop
+mul-wide-u16 c = search needs
+
+add-wide-u16 : tie.Need-add-wide-u16 Inv-loop μ-loop
+add-wide-u16 c = search needs
+
+mul-wide-u16-2 : tie.Need-mul-wide-u16-2 Inv-loop μ-loop
+mul-wide-u16-2 c = search needs
+
+shared-slice-read-wide-u16 : tie.Need-shared-slice-read-wide-u16 Inv-loop μ-loop
+shared-slice-read-wide-u16 c = search needs
+
+wide-u16-requires : tie.Need-wide-u16-requires Inv-loop μ-loop
+wide-u16-requires c κs = search needs
+
+mul-wide-u16-3 : tie.Need-mul-wide-u16-3 Inv-loop μ-loop
+mul-wide-u16-3 c = search needs
+
+add-wide-u16-2 : tie.Need-add-wide-u16-2 Inv-loop μ-loop
+add-wide-u16-2 c = search needs
+
+mul-wide-u16-4 : tie.Need-mul-wide-u16-4 Inv-loop μ-loop
+mul-wide-u16-4 c = search needs
+
+shared-slice-read-wide-u16-2 : tie.Need-shared-slice-read-wide-u16-2 Inv-loop μ-loop
+shared-slice-read-wide-u16-2 c = search needs
+
+wide-u16-requires-2 : tie.Need-wide-u16-requires-2 Inv-loop μ-loop
+wide-u16-requires-2 c κs = search needs
+
+mul-if1 : tie.Need-mul-if1 Inv-loop μ-loop
+mul-if1 c = record { fits = small (c .wide-u162 .ensures .1) (search needs) }
+
+mul-if1-2 : tie.Need-mul-if1-2 Inv-loop μ-loop
+mul-if1-2 c = record { fits = small (c .before .before .wide-u16 .ensures .1) (search needs) }
+
+returns : tie.Need-returns Inv-loop μ-loop
+returns c =
+    let d = c .before .wide-u162 .ensures .0 in
+    let n = c .before .before .before .wide-u16 .ensures .0 in
+    let l = c .before .before .before .before .before .before .loop in
+    record { within = l .inv .within; reaches = l .inv .reaches; misses = λ h. rw (d, n) at (c .if1 .taken) }
+
+add-k : tie.Need-add-k Inv-loop μ-loop
+add-k c = search needs
+
+loop-less : tie.Need-loop-less Inv-loop μ-loop
+loop-less c = search needs
+
+loop-again : tie.Need-loop-again Inv-loop μ-loop
+loop-again c =
+    let d = c .before .wide-u162 .ensures .0 in
+    let n = c .before .before .before .wide-u16 .ensures .0 in
+    let l = c .before .before .before .before .before .before .loop in
+    let e3 : 2 * (l .k + 1) + 1 ≡ 2 * l .k + 3 = omega arith in
+    let e2 : 2 * (l .k + 1) ≡ 2 * l .k + 2 = omega arith in
+    record { within = omega arith; reaches = λ h. rw (e3, e2) (rw (d, n) at (c .if1 .left)) }
+
+returns-2 : tie.Need-returns-2 Inv-loop μ-loop
+returns-2 c =
+    let l = c .before .loop in
+    record { within = l .inv .within; reaches = l .inv .reaches; misses = λ h. absurd (omega arith) }
+
+pub rank-from-spec : {M : Type 1} → statement M
+rank-from-spec =
+    tie.close
+    (tie.spec
+    Inv-loop
+    μ-loop
+    loop-holds
+    mul-loop
+    add-loop
+    mul-wide-u16
+    add-wide-u16
+    mul-wide-u16-2
+    shared-slice-read-wide-u16
+    wide-u16-requires
+    mul-wide-u16-3
+    add-wide-u16-2
+    mul-wide-u16-4
+    shared-slice-read-wide-u16-2
+    wide-u16-requires-2
+    mul-if1
+    mul-if1-2
+    returns
+    add-k
+    loop-less
+    loop-again
+    returns-2)

@@ -1,0 +1,16 @@
+use borrow.Author.Tests.{eq-eqb, ne-eqb}
+use Rattle.synthetic_rgb.proofs.blue.start.Statement.{statement}
+use Rattle.synthetic_rgb.proofs.blue.start.Tie as tie
+use Rattle.synthetic_rgb.proofs.blue.start.Reads as reads
+use Rattle.synthetic_rgb.proofs.blue.start.Lts as lts
+
+-- src/blue.rt:71:1
+returns : tie.Need-returns
+returns c = rw (eq-eqb _ _ (c .if1 .taken))
+
+-- src/blue.rt:71:1
+returns-2 : tie.Need-returns-2
+returns-2 c = rw (ne-eqb _ _ (c .if1 .left))
+
+pub start-spec : {M : Type 1} → statement M
+start-spec = tie.close (tie.spec returns returns-2)

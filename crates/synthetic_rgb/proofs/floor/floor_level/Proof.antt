@@ -1,0 +1,62 @@
+use mathlib.Core.Path.{ap, _∙_}
+use mathlib.Core.List.{_++_}
+use Prim.Native.Nat.{ℕ, _+_, _/_, min}
+use native.Mathlib.Omega.{arith}
+use lib.ListN.{length}
+use Rattle.lists.proofs.Counts.{stored-counts}
+use Rattle.spec.specs.Colour.{firstLevel, floorOf}
+use Rattle.synthetic_rgb.proofs.Counted.{below-all, below-append, zeros-at}
+use borrow.Author.Needs.{needs}
+use Rattle.synthetic_rgb.proofs.floor.floor_level.Statement.{statement}
+use Rattle.synthetic_rgb.proofs.floor.floor_level.Tie as tie
+use Rattle.synthetic_rgb.proofs.floor.floor_level.Reads as reads
+use Rattle.synthetic_rgb.proofs.floor.floor_level.Lts as lts
+use Rattle.synthetic_rgb.proofs.floor.count_both.Reads as count-both-reads
+use Rattle.synthetic_rgb.proofs.floor.cushioned.Reads as cushioned-reads
+use Rattle.synthetic_rgb.proofs.floor.first_level.Reads as first-level-reads
+
+slice-aggregate-count-both : tie.Need-slice-aggregate-count-both
+slice-aggregate-count-both c = search needs
+
+count-both-requires : tie.Need-count-both-requires
+count-both-requires c κs = (search needs, search needs, search needs, zeros-at 256)
+
+add-total : tie.Need-add-total
+add-total c = search needs
+
+add-target : tie.Need-add-target
+add-target c = search needs
+
+slice-aggregate-first-level : tie.Need-slice-aggregate-first-level
+slice-aggregate-first-level c = search needs
+
+first-level-requires : tie.Need-first-level-requires
+first-level-requires c κs = search needs
+
+cushioned-requires : tie.Need-cushioned-requires
+cushioned-requires c κs = search needs
+
+returns : tie.Need-returns
+unfolding floorOf
+returns c =
+    let k = c .before .before .before .before .before .before in
+    let a = k .before .before .args in
+    let b1 = a .band1-data .now in
+    let b2 = a .band2-data .now in
+    let bytes = below-append 256 b1 b2 (below-all 256 b1 (λ j h. omega (arith, k .before .shared-slice-known .given j))) (below-all 256 b2 (λ j h. omega (arith, k .shared-slice-known2 .given j))) in
+    c .cushioned .ensures
+    ∙ ap (λ (n : ℕ). min (n + 3) 40)
+    (c .before .first-level .ensures .0 ∙ ap (firstLevel ((length b1 + length b2 + 10) / 20) 0 0) (c .before .before .before .before .count-both .ensures ∙ stored-counts 256 (b1 ++ b2) bytes))
+
+pub floor-level-spec : {M : Type 1} → statement M
+floor-level-spec =
+    tie.close
+    (tie.spec
+    slice-aggregate-count-both
+    count-both-requires
+    add-total
+    add-target
+    slice-aggregate-first-level
+    first-level-requires
+    cushioned-requires
+    returns)

@@ -1,0 +1,36 @@
+use mathlib.Core.Path.{ap, _∙_}
+use native.Mathlib.Omega.{arith}
+use Rattle.spec.specs.Colour.{bytesOf}
+use Rattle.synthetic_rgb.specs.Palette.{colourOf}
+use Rattle.synthetic_rgb.proofs.Rules.{shown-is}
+use Rattle.synthetic_rgb.proofs.Painted.{zip-same}
+use borrow.Author.Needs.{needs}
+use Rattle.synthetic_rgb.proofs.pixels.with_cells.Statement.{statement}
+use Rattle.synthetic_rgb.proofs.pixels.with_cells.Tie as tie
+use Rattle.synthetic_rgb.proofs.pixels.with_cells.Reads as reads
+use Rattle.synthetic_rgb.proofs.pixels.with_cells.Lts as lts
+use Rattle.synthetic_rgb.proofs.blue.blue_cells.Reads as blue-cells-reads
+use Rattle.synthetic_rgb.proofs.pixels.by_cells.Reads as by-cells-reads
+
+blue-cells-requires : tie.Need-blue-cells-requires
+blue-cells-requires c κs = search needs
+
+by-cells-requires : tie.Need-by-cells-requires
+by-cells-requires c κs = search needs
+
+same-length : tie.Need-same-length
+same-length c = search needs
+
+returns : tie.Need-returns
+returns c =
+    let b = c .before .before .before .before .before .before in
+    let k = b .before .before .before in
+    let s = k .before .before .before in
+    let a = s .args in
+    c .before .before .by-cells .ensures
+    ∙ ap bytesOf
+    (zip-same 256 _ (colourOf (a .kind)) (shown-is (a .kind) (a .red .now) (a .green .now) (a .thresholds .now) _ (s .pre .0) (b .blue-cells .ensures)) (a .band1-data .now) (a .band2-data .now)
+    (λ j h. omega (arith, k .before .shared-slice-known2 .given j)) (λ j h. omega (arith, k .shared-slice-known3 .given j)))
+
+pub with-cells-spec : {M : Type 1} → statement M
+with-cells-spec = tie.close (tie.spec blue-cells-requires by-cells-requires same-length returns)
