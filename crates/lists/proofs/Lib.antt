@@ -4,3 +4,7 @@ pub mod Rows
 pub mod Stored
 pub mod Table
 pub mod Replies
+pub mod Zip
+pub mod Fill
+pub mod Paste
+pub mod Places

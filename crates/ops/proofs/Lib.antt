@@ -1,3 +1,2 @@
-pub mod ListsZip
 pub mod Lengths
 pub mod LogRatio

@@ -12,8 +12,8 @@ use lib.ListN.{length, take, drop, getD, replicate, length-take, length-drop, le
 use lib.Seq.{paste, ext-getD, getD-take, getD-drop, length-paste}
 use Rattle.spec.specs.Padding.{padCell, padded}
 use Rattle.padding.specs.Offsets.{startOf}
-use Rattle.padding.proofs.ListsPaste.{paste-in, paste-before, paste-after}
-use Rattle.padding.proofs.ListsPlaces.{places-length, places-at}
+use Rattle.lists.proofs.Paste.{paste-in, paste-before, paste-after}
+use Rattle.lists.proofs.Places.{places-length, places-at}
 
 and-false : (t : Bool) → t && false ≡ false
 and-false true = refl

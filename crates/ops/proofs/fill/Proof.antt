@@ -7,7 +7,7 @@ use lib.Ieee.{nan}
 use lib.ListN.{length}
 use borrow.Author.Needs.{needs}
 use Rattle.ops.specs.Chosen.{opOf}
-use Rattle.ops.proofs.ListsZip.{Done, step, finish}
+use Rattle.lists.proofs.Zip.{Done, step, finish}
 use Rattle.ops.proofs.fill.Statement.{statement}
 use Rattle.ops.proofs.fill.Tie as tie
 

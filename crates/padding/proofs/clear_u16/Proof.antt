@@ -3,7 +3,7 @@ use mathlib.Core.Path.{refl}
 use Prim.Native.Nat.{_-_}
 use native.Mathlib.Omega.{arith}
 use lib.ListN.{length}
-use Rattle.padding.proofs.ListsFill.{Filled, step, finish}
+use Rattle.lists.proofs.Fill.{Filled, step, finish}
 use Rattle.padding.proofs.clear_u16.Statement.{statement}
 use Rattle.padding.proofs.clear_u16.Tie as tie
 

@@ -3,7 +3,7 @@ use Prim.Native.Nat.{_-_}
 use native.Mathlib.Omega.{arith}
 use lib.ListN.{length}
 use denote.Ref.{now}
-use Rattle.padding.proofs.ListsPaste.{Copied, copied-none, copied-step, copied-all}
+use Rattle.lists.proofs.Paste.{Copied, copied-none, copied-step, copied-all}
 use Rattle.padding.proofs.copy_row_u8.Statement.{statement}
 use Rattle.padding.proofs.copy_row_u8.Tie as tie
 

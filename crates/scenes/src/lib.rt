@@ -1,0 +1,1 @@
+// Worked scenes: what the definitions give is what the Rust gave. No functions.
