@@ -1,37 +1,27 @@
 -- Counts: cell by cell, by one more value, by storing, their sum, and under a reordering. Assumes nothing.
 use mathlib.Core.Path.{_≡_, refl, sym, ap, _∙_}
 use mathlib.Core.Bool.{Bool, cond}
-use mathlib.Core.List.{List, [], _∷_, _++_, map, List·Permᴰ, List·Permᴰ·nil, List·Permᴰ·cons, List·Permᴰ·swap, List·Permᴰ·trans, Permᴰ·middle, append-nil}
+use mathlib.Core.List.{List, [], _∷_, _++_, List·Permᴰ, List·Permᴰ·nil, List·Permᴰ·cons, List·Permᴰ·swap, List·Permᴰ·trans, Permᴰ·middle, append-nil}
 use Prim.Native.Nat.{ℕ, zero, suc, _+_, _<_}
-use native.Mathlib.Nat.{add-zero, zero-add, add-left-comm, add-suc, suc-add, le-of-suc-le-suc, not-suc-le-zero}
+use native.Mathlib.Nat.{zero-add, add-left-comm, le-of-suc-le-suc, not-suc-le-zero}
 use native.Mathlib.Omega.{arith}
 use native.Mathlib.Decide.{ℕ-discrete}
 use borrow.Author.Tests.{eq-eqb, ne-eqb}
 use lib.Dec.{eqb}
-use lib.ListN.{length, getD, replicate, length-set, length-replicate, getD-replicate, length-map}
+use lib.ListN.{length, getD, replicate, length-set, length-replicate, getD-replicate}
 use lib.Seq.{ext-getD, getD-set-same, getD-set-other}
-use Rattle.spec.specs.Lists.{placesFrom, places, countOf, counts, added, stored, sumOf}
+use Rattle.lists.proofs.Places.{places-length, places-at}
+use Rattle.spec.specs.Lists.{countOf, counts, added, stored, sumOf}
 
 -- ---- cells
 
-places-length : (i n : ℕ) → length (placesFrom i n) ≡ n
-unfolding placesFrom
-places-length i zero = refl
-places-length i (suc n) = ap suc (places-length (suc i) n)
-
-map-at : (f : ℕ → ℕ) (i n k : ℕ) → k < n → getD (map f (placesFrom i n)) k 0 ≡ f (i + k)
-unfolding placesFrom
-map-at f i zero k h = absurd (not-suc-le-zero h)
-map-at f i (suc n) zero h = ap f (sym (add-zero i))
-map-at f i (suc n) (suc k) h = map-at f (suc i) n k (le-of-suc-le-suc h) ∙ ap f (suc-add i k ∙ sym (add-suc i k))
-
 pub counts-length : (n : ℕ) (xs : List ℕ) → length (counts n xs) ≡ n
 unfolding counts
-counts-length n xs = length-map (places n) (λ b. countOf b xs) ∙ places-length 0 n
+counts-length n xs = places-length (λ b. countOf b xs) 0 n
 
 pub counts-at : (n : ℕ) (xs : List ℕ) (k : ℕ) → k < n → getD (counts n xs) k 0 ≡ countOf k xs
 unfolding counts
-counts-at n xs k h = map-at (λ b. countOf b xs) 0 n k h ∙ ap (λ (j : ℕ). countOf j xs) (zero-add k)
+counts-at n xs k h = places-at (λ b. countOf b xs) 0 n k h
 
 -- a list of n numbers whose cells are counts
 pub counts-from-cells : (n : ℕ) (h xs : List ℕ) → length h ≡ n → ((k : ℕ) → k < n → getD h k 0 ≡ countOf k xs) → h ≡ counts n xs

@@ -1,10 +1,10 @@
+pub mod Places
 pub mod Counts
 pub mod Reorder
 pub mod Rows
-pub mod Stored
-pub mod Table
-pub mod Replies
 pub mod Zip
 pub mod Fill
 pub mod Paste
-pub mod Places
+pub mod Stored
+pub mod Table
+pub mod Replies
