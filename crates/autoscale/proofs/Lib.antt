@@ -1,2 +1,5 @@
 pub mod Painting
 pub mod Answers
+pub mod Unread
+pub mod Windows
+pub mod TempExtremes

@@ -1,10 +1,13 @@
 -- The painting of a band, a pixel at a time. Assumes nothing.
 use mathlib.Core.Path.{_≡_, refl, sym, ap, _∙_}
+use mathlib.Core.Bool.{cond}
 use mathlib.Core.List.{List, [], _∷_, _++_}
-use Prim.Native.Nat.{ℕ, _+_, _≤_, _<_, min, max}
+use Prim.Native.Nat.{ℕ, zero, suc, _+_, _≤_, _<_, min, max}
 use native.Mathlib.Nat.{add-zero}
 use native.Mathlib.Numerals.{add-one}
-use lib.Dec.{T}
+use native.Mathlib.Omega.{arith}
+use borrow.Author.Tests.{ne-eqb}
+use lib.Dec.{T, eqb}
 use lib.ListN.{length, take, set, getD}
 use lib.Seq.{getD-drop, take-suc-set}
 use lib.Ieee.{Float, nan, le, ofBits, toUnsigned}
@@ -13,7 +16,7 @@ use Rattle.spec.specs.Lists.{lowest, highest}
 use Rattle.spec.specs.Pixels.{Pixel, off, pixel, pixels}
 use Rattle.spec.specs.Value.{full8, full16, valueOf, paint}
 use Rattle.numeric.proofs.Small.{held-small, held-cut}
-use Rattle.raster.proofs.Bands.{drop-pixels, pixel-off, pixel-on}
+use Rattle.raster.proofs.Bands.{drop-pixels}
 
 -- ---- one value: what is cut lies within 0..255 or 0..65535
 zero-full8 : T (le zero64 full8)
@@ -47,13 +50,10 @@ unfolding toUnsigned ofBits
 cut16 x = held-cut full16 x zero-full16
 
 -- ---- one pixel
-pub paint-off : (full low high range : Float) (m : ℕ) (v : Float) → m ≡ 0 → 0 ≡ paint full low high range (pixel m v)
-unfolding paint
-paint-off full low high range m v e = sym (ap (paint full low high range) (pixel-off m v e))
-
-pub paint-on : (full low high range : Float) (m : ℕ) (v : Float) → (m ≡ 0 → ⊥) → valueOf full low high range v ≡ paint full low high range (pixel m v)
-unfolding paint
-paint-on full low high range m v n = sym (ap (paint full low high range) (pixel-on m v n))
+pub paint-pixel : (full low high range : Float) (m : ℕ) (v : Float) → cond (eqb m 0) 0 (valueOf full low high range v) ≡ paint full low high range (pixel m v)
+unfolding paint pixel
+paint-pixel full low high range zero v = refl
+paint-pixel full low high range (suc m) v = rw (ne-eqb (suc m) 0 (λ e. omega (arith, e)))
 
 -- ---- the pixel at a place
 pub pixels-at : (m : List ℕ) (d : List Float) (i : ℕ) → i < length m → i < length d → pixel (getD m i 0) (getD d i nan) ≡ getD (pixels m d) i off

@@ -1,4 +1,5 @@
 // The window of a band from its statistics, by strategy, and the painting of a band from its window, outside Clahe.
+pub mod band;
 pub mod clip;
 pub mod paint;
 
@@ -46,6 +47,17 @@ pub fn picture_window(strategy: AutoscaleStrategy, is_copol: bool, stats: Histog
         return WindowAnswer::Blank;
     }
     open_window(clip::picture_clip(strategy, is_copol, stats))
+}
+
+// The window call: refusals 1 to 4, then the window.
+pub fn autoscale_window(strategy: AutoscaleStrategy, rows: usize, cols: usize, db: &[f64], valid_mask: &[u8]) -> WindowAnswer
+    ensures { λ r. ⌜ Window.readWindow r ≡ Window.windowCall strategy rows cols (now («valid_mask» .entry)) (now (db .entry)) ⌝ }
+{
+    let refusal = raster::shape_refusal(rows, cols, db, valid_mask);
+    if refusal != 0 {
+        return WindowAnswer::Refused(refusal);
+    }
+    band::band_window(strategy, db, valid_mask)
 }
 
 // Whether painting starts from a window of this gamma.

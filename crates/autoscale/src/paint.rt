@@ -1,10 +1,12 @@
 // The painting of valid pixels between the ends of a window, outside Clahe, each float step in the source's order.
 use stretch::Ends;
 ghost use mathlib.Core.Path.{_≡_};
+ghost use mathlib.Core.Bool.{cond};
 ghost use mathlib.Core.List.{map};
+ghost use lib.Dec.{eqb};
 ghost use lib.ListN.{length};
 ghost use Rattle.spec.specs.Lists.{lowest, highest};
-ghost use Rattle.spec.specs.Pixels.{pixel, pixels};
+ghost use Rattle.spec.specs.Pixels.{pixels};
 ghost use Rattle.spec.specs.Value.{full8, full16, normalised, valueOf, paint};
 
 // Held to low..high, minus low, over range.
@@ -30,19 +32,17 @@ pub fn value_u16(v: f64, low: f64, high: f64, range: f64) -> u16
     numeric::trunc_small(numeric::clamp_f64(x, 0.0, 65535.0)) as u16
 }
 
-// A pixel with its mark: 0 where it is invalid. The value is worked out either way, so that no branch stands in the loops below.
-fn pixel_u8(v: f64, mark: u8, low: f64, high: f64, range: f64) -> u8
-    ensures { λ r. ⌜ r ≡ paint full8 low high range (pixel mark v) ⌝ }
+// A value, or 0 where the pixel is invalid. The value is worked out either way, so that no branch stands in the loops below.
+fn masked_u8(mark: u8, value: u8) -> u8
+    ensures { λ r. ⌜ r ≡ cond (eqb mark 0) 0 value ⌝ }
 {
-    let x = value_u8(v, low, high, range);
-    if mark == 0 { 0 } else { x }
+    if mark == 0 { 0 } else { value }
 }
 
-fn pixel_u16(v: f64, mark: u8, low: f64, high: f64, range: f64) -> u16
-    ensures { λ r. ⌜ r ≡ paint full16 low high range (pixel mark v) ⌝ }
+fn masked_u16(mark: u8, value: u16) -> u16
+    ensures { λ r. ⌜ r ≡ cond (eqb mark 0) 0 value ⌝ }
 {
-    let x = value_u16(v, low, high, range);
-    if mark == 0 { 0 } else { x }
+    if mark == 0 { 0 } else { value }
 }
 
 // A band at 8 bits, with the least and the greatest of the bytes.
@@ -55,7 +55,8 @@ pub fn paint_u8(db: &[f64], valid_mask: &[u8], low: f64, high: f64, range: f64, 
     let mut hi: u16 = 0;
     let mut i = 0;
     while i < out.len() {
-        let x = pixel_u8(db[i], valid_mask[i], low, high, range);
+        let value = value_u8(db[i], low, high, range);
+        let x = masked_u8(valid_mask[i], value);
         out[i] = x;
         lo = stretch::min_u16(lo, x as u16);
         hi = stretch::max_u16(hi, x as u16);
@@ -71,7 +72,8 @@ pub fn paint_u16(db: &[f64], valid_mask: &[u8], low: f64, high: f64, range: f64,
 {
     let mut i = 0;
     while i < out.len() {
-        out[i] = pixel_u16(db[i], valid_mask[i], low, high, range);
+        let value = value_u16(db[i], low, high, range);
+        out[i] = masked_u16(valid_mask[i], value);
         i += 1;
     }
 }

@@ -1,16 +1,19 @@
 -- `autoscale::paint::paint_u16` meets its contract. The invariant: the values before i are those of the pixels before i. Assumes nothing.
 use mathlib.Core.Path.{_≡_, refl, ap, _∙_}
+use mathlib.Core.Bool.{cond}
 use mathlib.Core.List.{map}
-use Prim.Native.Nat.{_-_, _≤_}
+use Prim.Native.Nat.{ℕ, _-_, _≤_}
 use native.Mathlib.Omega.{arith}
 use borrow.Author.Needs.{needs}
 use denote.Ref.{now}
-use lib.ListN.{length, take, length-set}
+use lib.Dec.{eqb}
+use lib.Ieee.{nan}
+use lib.ListN.{length, getD, take, length-set}
 use Rattle.spec.specs.Pixels.{off, pixels}
 use Rattle.spec.specs.Value.{full16, paint}
 use Rattle.lists.proofs.Rows.{step, finish}
 use Rattle.raster.proofs.Bands.{pixels-length}
-use Rattle.autoscale.proofs.Painting.{pixels-at}
+use Rattle.autoscale.proofs.Painting.{paint-pixel, pixels-at}
 use Rattle.autoscale.proofs.paint.paint_u16.Statement.{statement}
 use Rattle.autoscale.proofs.paint.paint_u16.Tie as tie
 
@@ -24,17 +27,20 @@ abbrev μ-loop : tie.MeasureT-loop
 loop-holds : tie.Need-loop-holds Inv-loop μ-loop
 loop-holds c = (omega arith, refl, refl)
 
-mul-pixel-u16 : tie.Need-mul-pixel-u16 Inv-loop μ-loop
-mul-pixel-u16 c = omega arith
+mul-value-u16 : tie.Need-mul-value-u16 Inv-loop μ-loop
+mul-value-u16 c = omega arith
 
-shared-slice-read-pixel-u16 : tie.Need-shared-slice-read-pixel-u16 Inv-loop μ-loop
-shared-slice-read-pixel-u16 c = omega arith
+shared-slice-read-value-u16 : tie.Need-shared-slice-read-value-u16 Inv-loop μ-loop
+shared-slice-read-value-u16 c = omega arith
 
-shared-slice-read-pixel-u16-2 : tie.Need-shared-slice-read-pixel-u16-2 Inv-loop μ-loop
-shared-slice-read-pixel-u16-2 c = omega arith
+value-u16-requires : tie.Need-value-u16-requires Inv-loop μ-loop
+value-u16-requires c κs = search needs
 
-pixel-u16-requires : tie.Need-pixel-u16-requires Inv-loop μ-loop
-pixel-u16-requires c κs = search needs
+shared-slice-read-masked-u16 : tie.Need-shared-slice-read-masked-u16 Inv-loop μ-loop
+shared-slice-read-masked-u16 c = omega arith
+
+masked-u16-requires : tie.Need-masked-u16-requires Inv-loop μ-loop
+masked-u16-requires c κs = search needs
 
 mul-out : tie.Need-mul-out Inv-loop μ-loop
 mul-out c = omega arith
@@ -50,16 +56,18 @@ loop-less c = omega arith
 
 loop-again : tie.Need-loop-again Inv-loop μ-loop
 loop-again c =
-    let l = c .before .before .before .before in
+    let u = c .before .before in
+    let l = u .before .before .before in
     let a = l .before .before .before .before .args in
     let o = l .loop .out in
     let i = l .loop .i in
-    let x = c .pixel-u16 .result in
+    let k = getD (now (a .valid-mask)) (l .loop .i) 0 in
+    let x = c .masked-u16 .result in
     let g = paint full16 (a .low) (a .high) (a .range) in
     let e = pixels-length (now (a .valid-mask)) (now (a .db)) (omega arith) in (
       omega arith,
       length-set o i x ∙ l .loop .inv .1,
-      step g off (pixels (now (a .valid-mask)) (now (a .db))) o i x (omega arith) (omega arith) (c .pixel-u16 .ensures ∙ ap g (pixels-at (now (a .valid-mask)) (now (a .db)) i (omega arith) (omega arith))) (l .loop .inv .2),
+      step g off (pixels (now (a .valid-mask)) (now (a .db))) o i x (omega arith) (omega arith) (c .masked-u16 .ensures ∙ ap (λ (y : ℕ). cond (eqb k 0) 0 y) (u .value-u16 .ensures) ∙ paint-pixel full16 (a .low) (a .high) (a .range) k (getD (now (a .db)) i nan) ∙ ap g (pixels-at (now (a .valid-mask)) (now (a .db)) i (omega arith) (omega arith))) (l .loop .inv .2),
     )
 
 same-length : tie.Need-same-length Inv-loop μ-loop
@@ -73,4 +81,4 @@ returns c =
     finish (paint full16 (a .low) (a .high) (a .range)) off (pixels (now (a .valid-mask)) (now (a .db))) (l .loop .out) (l .loop .i) (omega arith, omega arith, l .loop .inv .2) (c .loop-test .left)
 
 pub paint-u16-spec : {M : Type 1} → statement M
-paint-u16-spec = tie.close (tie.spec Inv-loop μ-loop loop-holds mul-pixel-u16 shared-slice-read-pixel-u16 shared-slice-read-pixel-u16-2 pixel-u16-requires mul-out slice-write-out add-i loop-less loop-again same-length returns)
+paint-u16-spec = tie.close (tie.spec Inv-loop μ-loop loop-holds mul-value-u16 shared-slice-read-value-u16 value-u16-requires shared-slice-read-masked-u16 masked-u16-requires mul-out slice-write-out add-i loop-less loop-again same-length returns)

@@ -1,18 +1,21 @@
 -- `autoscale::paint::paint_u8` meets its contract. The invariant: the bytes before i are those of the pixels before i, and lo and hi their ends. Assumes nothing.
 use mathlib.Core.Path.{_≡_, refl, ap, _∙_}
+use mathlib.Core.Bool.{cond}
 use mathlib.Core.List.{map}
-use Prim.Native.Nat.{_-_, _≤_}
+use Prim.Native.Nat.{ℕ, _-_, _≤_}
 use native.Mathlib.Omega.{arith}
 use borrow.Author.Needs.{needs}
 use denote.Ref.{now}
 use lib.Seq.{take-all}
-use lib.ListN.{length, take, length-set}
+use lib.Dec.{eqb}
+use lib.Ieee.{nan}
+use lib.ListN.{length, getD, take, length-set}
 use Rattle.spec.specs.Lists.{lowest, highest}
 use Rattle.spec.specs.Pixels.{off, pixels}
 use Rattle.spec.specs.Value.{full8, paint}
 use Rattle.lists.proofs.Rows.{step, finish}
 use Rattle.raster.proofs.Bands.{pixels-length}
-use Rattle.autoscale.proofs.Painting.{pixels-at, lowest-stored, highest-stored}
+use Rattle.autoscale.proofs.Painting.{paint-pixel, pixels-at, lowest-stored, highest-stored}
 use Rattle.autoscale.proofs.paint.paint_u8.Statement.{statement}
 use Rattle.autoscale.proofs.paint.paint_u8.Tie as tie
 
@@ -28,17 +31,20 @@ loop-holds : tie.Need-loop-holds Inv-loop μ-loop
 unfolding lowest highest
 loop-holds c = (omega arith, refl, refl, refl, refl)
 
-mul-pixel-u8 : tie.Need-mul-pixel-u8 Inv-loop μ-loop
-mul-pixel-u8 c = omega arith
+mul-value-u8 : tie.Need-mul-value-u8 Inv-loop μ-loop
+mul-value-u8 c = omega arith
 
-shared-slice-read-pixel-u8 : tie.Need-shared-slice-read-pixel-u8 Inv-loop μ-loop
-shared-slice-read-pixel-u8 c = omega arith
+shared-slice-read-value-u8 : tie.Need-shared-slice-read-value-u8 Inv-loop μ-loop
+shared-slice-read-value-u8 c = omega arith
 
-shared-slice-read-pixel-u8-2 : tie.Need-shared-slice-read-pixel-u8-2 Inv-loop μ-loop
-shared-slice-read-pixel-u8-2 c = omega arith
+value-u8-requires : tie.Need-value-u8-requires Inv-loop μ-loop
+value-u8-requires c κs = search needs
 
-pixel-u8-requires : tie.Need-pixel-u8-requires Inv-loop μ-loop
-pixel-u8-requires c κs = search needs
+shared-slice-read-masked-u8 : tie.Need-shared-slice-read-masked-u8 Inv-loop μ-loop
+shared-slice-read-masked-u8 c = omega arith
+
+masked-u8-requires : tie.Need-masked-u8-requires Inv-loop μ-loop
+masked-u8-requires c κs = search needs
 
 slice-write-out : tie.Need-slice-write-out Inv-loop μ-loop
 slice-write-out c = omega arith
@@ -64,17 +70,19 @@ loop-less c = omega arith
 loop-again : tie.Need-loop-again Inv-loop μ-loop
 loop-again c =
     let p = c .before .before in
-    let l = p .before .before .before .before in
+    let u = p .before .before in
+    let l = u .before .before .before in
     let a = l .before .before .before .before .args in
     let o = l .loop .out in
     let i = l .loop .i in
-    let x = p .pixel-u8 .result in
+    let k = getD (now (a .valid-mask)) (l .loop .i) 0 in
+    let x = p .masked-u8 .result in
     let g = paint full8 (a .low) (a .high) (a .range) in
     let px = pixels (now (a .valid-mask)) (now (a .db)) in
     let e = pixels-length (now (a .valid-mask)) (now (a .db)) (omega arith) in (
       omega arith,
       length-set o i x ∙ l .loop .inv .1,
-      step g off px o i x (omega arith) (omega arith) (p .pixel-u8 .ensures ∙ ap g (pixels-at (now (a .valid-mask)) (now (a .db)) i (omega arith) (omega arith))) (l .loop .inv .2),
+      step g off px o i x (omega arith) (omega arith) (p .masked-u8 .ensures ∙ ap (λ (y : ℕ). cond (eqb k 0) 0 y) (u .value-u8 .ensures) ∙ paint-pixel full8 (a .low) (a .high) (a .range) k (getD (now (a .db)) i nan) ∙ ap g (pixels-at (now (a .valid-mask)) (now (a .db)) i (omega arith) (omega arith))) (l .loop .inv .2),
       c .before .min-u16 .ensures ∙ lowest-stored 65535 (l .loop .lo) x o i (omega arith) (l .loop .inv .3),
       c .max-u16 .ensures ∙ highest-stored 0 (l .loop .hi) x o i (omega arith) (l .loop .inv .4),
     )
@@ -93,4 +101,4 @@ returns c =
     (l .loop .inv .3 ∙ ap (lowest 65535) t, l .loop .inv .4 ∙ ap (highest 0) t))
 
 pub paint-u8-spec : {M : Type 1} → statement M
-paint-u8-spec = tie.close (tie.spec Inv-loop μ-loop loop-holds mul-pixel-u8 shared-slice-read-pixel-u8 shared-slice-read-pixel-u8-2 pixel-u8-requires slice-write-out cast-min-u16 min-u16-requires cast-max-u16 max-u16-requires add-i loop-less loop-again same-length returns)
+paint-u8-spec = tie.close (tie.spec Inv-loop μ-loop loop-holds mul-value-u8 shared-slice-read-value-u8 value-u8-requires shared-slice-read-masked-u8 masked-u8-requires slice-write-out cast-min-u16 min-u16-requires cast-max-u16 max-u16-requires add-i loop-less loop-again same-length returns)

@@ -1,0 +1,136 @@
+use borrow.Author.Needs.{needs}
+use Rattle.clahe.proofs.Shades.{shade-on, shade-off}
+use Rattle.clahe.proofs.Cells.{kept-or-stored, from-places}
+use Rattle.clahe.specs.Paint.{shade, shadeAt, rowShades, columnAt}
+use Rattle.clahe.specs.Work.{Among}
+use Rattle.spec.specs.Pixels.{on}
+use Rattle.spec.specs.Value.{full8}
+use Rattle.types.specs.declared.TilePosition.{TilePosition}
+use lib.ListN.{length, getD, length-set}
+use lib.Ieee.{Float, nan}
+use native.Mathlib.Omega.{arith}
+use Prim.Native.Nat.{ℕ, _+_, _-_, _≤_, _<_}
+use mathlib.Core.List.{List}
+use mathlib.Core.Logic.{⊎-elim}
+use mathlib.Core.Path.{_≡_, sym, ap, subst, _∙_}
+use Rattle.clahe.proofs.paint.paint_row_u8.Statement.{statement}
+use Rattle.clahe.proofs.paint.paint_row_u8.Tie as tie
+use Rattle.clahe.proofs.paint.paint_row_u8.Reads as reads
+use Rattle.clahe.proofs.paint.paint_row_u8.Lts as lts
+use Rattle.clahe.proofs.columns.column.Reads as column-reads
+use Rattle.clahe.proofs.counts.normalised.Reads as normalised-reads
+use Rattle.clahe.proofs.paint.shade_u8.Reads as shade-u8-reads
+
+abbrev Inv-loop : tie.InvT-loop
+Inv-loop db valid-mask low high range work y positions firsts seconds weights out₀ c₀ out c =
+    (c ≤ length db) × (length out ≡ length db)
+    × ((k : ℕ) → k < c → getD out k 0 ≡ shadeAt full8 work y (columnAt positions firsts seconds weights) low high range valid-mask db k)
+
+abbrev μ-loop : tie.MeasureT-loop
+μ-loop db valid-mask low high range work y positions firsts seconds weights out₀ c₀ out c = length db - c
+
+-- src/paint.rt:37:5
+loop-holds : tie.Need-loop-holds Inv-loop μ-loop
+loop-holds c = (omega arith, omega arith, λ k h. absurd (omega arith))
+
+-- src/paint.rt:38:12
+shared-slice-read-if1 : tie.Need-shared-slice-read-if1 Inv-loop μ-loop
+shared-slice-read-if1 c = search needs
+
+-- src/paint.rt:39:13
+slice-write-out : tie.Need-slice-write-out Inv-loop μ-loop
+slice-write-out c = search needs
+
+-- src/paint.rt:41:17
+column-requires : tie.Need-column-requires Inv-loop μ-loop
+column-requires c κs = search needs
+
+-- src/paint.rt:42:42
+mul-normalised : tie.Need-mul-normalised Inv-loop μ-loop
+mul-normalised c = search needs
+
+-- src/paint.rt:42:42
+shared-slice-read-normalised : tie.Need-shared-slice-read-normalised Inv-loop μ-loop
+shared-slice-read-normalised c = search needs
+
+-- src/paint.rt:42:31
+normalised-requires : tie.Need-normalised-requires Inv-loop μ-loop
+normalised-requires c κs = search needs
+
+-- src/paint.rt:42:22
+shade-u8-requires : tie.Need-shade-u8-requires Inv-loop μ-loop
+shade-u8-requires c κs =
+    let k = c .before .before in
+    let l = k .before .before .before .before in
+    let s = l .before .before .before .before .before .before .before .before .before in
+    (s .pre .1 .0 .0, s .pre .1 .0 .1, subst Among (sym (k .column .ensures)) (s .pre .1 .1 .1 (l .loop .c) (omega arith)))
+
+-- src/paint.rt:42:13
+slice-write-out-2 : tie.Need-slice-write-out-2 Inv-loop μ-loop
+slice-write-out-2 c = search needs
+
+-- src/paint.rt:44:9
+add-c : tie.Need-add-c Inv-loop μ-loop
+add-c c = search needs
+
+-- src/paint.rt:37:5
+loop-less : tie.Need-loop-less Inv-loop μ-loop
+loop-less c = search needs
+
+-- src/paint.rt:37:5
+loop-again : tie.Need-loop-again Inv-loop μ-loop
+loop-again c =
+    let l = c .before .before .before in
+    let a = l .before .before .before .before .before .before .before .before .before .args in
+    let i = l .loop .c in
+    let ms = a .valid-mask .now in
+    let ds = a .db .now in
+    let work = a .work .now in
+    let x = columnAt (a .positions .now) (a .firsts .now) (a .seconds .now) (a .weights .now) in
+    let right : ℕ → ℕ → Type 0 = λ k n. n ≡ shadeAt full8 work (a .y) x (a .low) (a .high) (a .range) ms ds k in
+    ⊎-elim
+    (λ w.
+      rw (w .1)
+      (omega arith, simp length-set (omega arith),
+       kept-or-stored right 0 (l .loop .out) i 0 (omega arith) (l .loop .inv .2) (shade-off full8 work (a .y) (x i) (a .low) (a .high) (a .range) (getD ms i 0) (getD ds i nan) (w .0 .taken))))
+    (λ w.
+      rw (w .5)
+      (omega arith, simp length-set (omega arith),
+       kept-or-stored right 0 (l .loop .out) i (w .4 .result) (omega arith) (l .loop .inv .2)
+       (w .4 .ensures ∙ ap (λ (p : TilePosition). shade full8 work (a .y) p (on (w .3 .result))) (w .1 .ensures)
+       ∙ shade-on full8 work (a .y) (x i) (a .low) (a .high) (a .range) (getD ms i 0) (getD ds i nan) (w .3 .result) (w .0 .left) (w .3 .ensures))))
+    (c .if1 .came)
+
+-- src/paint.rt:29:1
+same-length : tie.Need-same-length Inv-loop μ-loop
+same-length c = search needs
+
+-- src/paint.rt:29:1
+returns : tie.Need-returns Inv-loop μ-loop
+unfolding rowShades
+returns c =
+    let l = c .before in
+    let a = l .before .before .before .before .before .before .before .before .before .args in
+    from-places (shadeAt full8 (a .work .now) (a .y) (columnAt (a .positions .now) (a .firsts .now) (a .seconds .now) (a .weights .now)) (a .low) (a .high) (a .range) (a .valid-mask .now) (a .db .now))
+    0 (length (a .db .now)) (l .loop .out) (omega arith) (λ k h. l .loop .inv .2 k (omega arith))
+
+pub paint-row-u8-spec : {M : Type 1} → statement M
+paint-row-u8-spec =
+    tie.close
+    (tie.spec
+    Inv-loop
+    μ-loop
+    loop-holds
+    shared-slice-read-if1
+    slice-write-out
+    column-requires
+    mul-normalised
+    shared-slice-read-normalised
+    normalised-requires
+    shade-u8-requires
+    slice-write-out-2
+    add-c
+    loop-less
+    loop-again
+    same-length
+    returns)

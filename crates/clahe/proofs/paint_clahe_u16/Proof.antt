@@ -1,0 +1,41 @@
+use Rattle.clahe.proofs.Painted.{shades-are}
+use Rattle.clahe.specs.Band.{band}
+use Rattle.spec.specs.Value.{full16}
+use mathlib.Core.Path.{_∙_}
+use borrow.Author.Needs.{needs}
+use Rattle.clahe.proofs.paint_clahe_u16.Statement.{statement}
+use Rattle.clahe.proofs.paint_clahe_u16.Tie as tie
+use Rattle.clahe.proofs.paint_clahe_u16.Reads as reads
+use Rattle.clahe.proofs.paint_clahe_u16.Lts as lts
+use Rattle.clahe.proofs.paint_work_u16.Reads as paint-work-u16-reads
+use Rattle.clahe.proofs.sums.write_tables.Reads as write-tables-reads
+
+-- src/lib.rt:39:5
+write-tables-requires : tie.Need-write-tables-requires
+write-tables-requires c κs = search needs
+
+-- src/lib.rt:44:5
+paint-work-u16-requires : tie.Need-paint-work-u16-requires
+paint-work-u16-requires c κs = search needs
+
+-- src/lib.rt:35:1
+same-length : tie.Need-same-length
+same-length c = search needs
+
+-- src/lib.rt:35:1
+same-length-2 : tie.Need-same-length-2
+same-length-2 c = search needs
+
+-- src/lib.rt:35:1
+returns : tie.Need-returns
+returns c =
+    let p = c .before .before in
+    let w = p .before .before .before .before .before .before .before .before .before in
+    let s = w .before .before .before .before .before .before in
+    let a = s .args in
+    p .paint-work-u16 .ensures ∙ shades-are full16 (a .rows) (a .cols) (band (a .low) (a .high) (a .range) (a .valid-mask .now) (a .db .now)) _ (w .write-tables .ensures)
+
+pub paint-clahe-u16-spec : {M : Type 1} → statement M
+paint-clahe-u16-spec =
+    tie.close
+    (tie.spec write-tables-requires paint-work-u16-requires same-length same-length-2 returns)
