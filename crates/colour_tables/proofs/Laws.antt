@@ -1,11 +1,12 @@
--- What the rules of red and green give with no look at a table: order in the byte, one answer each, and 0 up to the floor.
+-- What the colour rules give with no look at a table: order in the byte, one answer each, and 0 up to the floor.
 -- Assumes nothing.
 use mathlib.Core.Path.{_≡_, ap, _∙_}
-use Prim.Native.Nat.{ℕ, _*_, _-_, _^_, _≤_, _<_, zero-le}
+use Prim.Native.Nat.{ℕ, _+_, _*_, _-_, _^_, _≤_, _<_, zero-le}
 use native.Mathlib.Nat.{le-trans, lt-of-le-of-lt, mul-zero, one-le-pow, pow-le-pow-left, pow-lt-pow-left, mul-le-mul, mul-le-mul-left, mul-lt-mul-of-pos-right}
 use native.Mathlib.Omega.{arith}
+use borrow.Author.Tests.{ne-eqb}
 use lib.Dec.{leb→le}
-use Rattle.spec.specs.Colour.{reached, level, red, green, redAbove, greenAbove}
+use Rattle.spec.specs.Colour.{reached, level, red, green, blue, redAbove, greenAbove, blueAbove}
 use Rattle.colour_tables.proofs.Levels.{Only, level-is, level-only, no-lower-side, reached-le, reached-mono, zero-pow}
 
 -- each of the four rules is level p (w ^ q) (510 ^ p * x ^ q): x of w, to the power q / p
@@ -91,3 +92,13 @@ red-above-byte f v = reached-le 20 ((255 - f) ^ 23) (510 ^ 20 * (v - f) ^ 23) 25
 pub green-above-byte : (f v : ℕ) → greenAbove f v ≤ 255
 unfolding greenAbove
 green-above-byte f v = reached-le 10 ((255 - f) ^ 11) (510 ^ 10 * (v - f) ^ 11) 255
+
+-- so is each blue
+pub blue-only : (v r g : ℕ) → 0 < v → r ≤ 255 → 0 < g → Only 10 (10 ^ 10 * g) (1224 ^ 10 * r) (blue v r g)
+unfolding blue
+blue-only v r g lit h pos =
+    rw (ne-eqb v 0 (λ e. omega arith)) (level-only 10 (10 ^ 10 * g) (1224 ^ 10 * r) (omega arith) (omega arith))
+
+pub blue-above-only : (r g : ℕ) → r ≤ 255 → Only 10 (10 ^ 10 * (g + 8)) (918 ^ 10 * (r + 8)) (blueAbove r g)
+unfolding blueAbove
+blue-above-only r g h = level-only 10 (10 ^ 10 * (g + 8)) (918 ^ 10 * (r + 8)) (omega arith) (omega arith)

@@ -3,3 +3,8 @@ pub mod Filling
 pub mod Seeking
 pub mod Summary
 pub mod Statistics
+pub mod Counting
+pub mod Extremes
+pub mod Units
+pub mod Welford
+pub mod Bounds

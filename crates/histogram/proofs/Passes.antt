@@ -39,19 +39,19 @@ pub value-extreme : (s t : Moments) (v : Float) → t ≡ withExtreme s v →
       «min_db» = t .«min_db»;
       «max_db» = t .«max_db»;
       mean = add binary64 (s .mean) (div binary64 (sub binary64 v (s .mean)) (ofCount (t .count)));
-      m2 = add binary64 (s .m2) (mul binary64 (sub binary64 v (s .mean)) (sub binary64 v (add binary64 (s .mean) (div binary64 (sub binary64 v (s .mean)) (ofCount (t .count))))))
+      m2 = add binary64 (s .m2) (mul binary64 (sub binary64 v (s .mean)) (sub binary64 v (add binary64 (s .mean) (div binary64 (sub binary64 v (s .mean)) (ofCount (t .count))))));
     }
     ≡ withValue s v
 unfolding withValue withExtreme
 value-extreme s t v e =
     ap (λ (u : Moments).
-      record {
-        count = u .count;
-        «min_db» = u .«min_db»;
-        «max_db» = u .«max_db»;
-        mean = add binary64 (s .mean) (div binary64 (sub binary64 v (s .mean)) (ofCount (u .count)));
-        m2 = add binary64 (s .m2) (mul binary64 (sub binary64 v (s .mean)) (sub binary64 v (add binary64 (s .mean) (div binary64 (sub binary64 v (s .mean)) (ofCount (u .count))))))
-      }) e
+    record {
+      count = u .count;
+      «min_db» = u .«min_db»;
+      «max_db» = u .«max_db»;
+      mean = add binary64 (s .mean) (div binary64 (sub binary64 v (s .mean)) (ofCount (u .count)));
+      m2 = add binary64 (s .m2) (mul binary64 (sub binary64 v (s .mean)) (sub binary64 v (add binary64 (s .mean) (div binary64 (sub binary64 v (s .mean)) (ofCount (u .count))))));
+    }) e
 
 bad-off : badPixel off ≡ false
 unfolding badPixel
@@ -98,7 +98,7 @@ module _ {step : Moments → Float → Moments} {fold : Moments → List Float �
             place = omega arith;
             few = omega (arith, a .few);
             good = a .good ∙ ap (any badPixel) n ∙ any-not-here badPixel off (drop (i + 1) (pixels m d)) bad-off;
-            rest = a .rest ∙ ap (λ (ps : List Pixel). fold s (validOf ps)) n ∙ ap (fold s) (valid-off (drop (i + 1) (pixels m d)))
+            rest = a .rest ∙ ap (λ (ps : List Pixel). fold s (validOf ps)) n ∙ ap (fold s) (valid-off (drop (i + 1) (pixels m d)));
           }
 
       module _ (n : getD m i 0 ≡ 0 → ⊥) where
@@ -115,5 +115,5 @@ module _ {step : Moments → Float → Moments} {fold : Moments → List Float �
               few = omega (arith, a .few, f .counts s v, ap (λ (t : Moments). t .count) q);
               good = a .good ∙ ap (any badPixel) x ∙ any-not-here badPixel (on v) (drop (i + 1) (pixels m d)) e;
               rest = a .rest ∙ ap (λ (ps : List Pixel). fold s (validOf ps)) x ∙ ap (fold s) (valid-on v (drop (i + 1) (pixels m d)))
-                  ∙ f .cons s v (validOf (drop (i + 1) (pixels m d))) ∙ ap (λ (t : Moments). fold t (validOf (drop (i + 1) (pixels m d)))) (sym q)
+                  ∙ f .cons s v (validOf (drop (i + 1) (pixels m d))) ∙ ap (λ (t : Moments). fold t (validOf (drop (i + 1) (pixels m d)))) (sym q);
             }

@@ -47,8 +47,22 @@ module _ (s : Moments) where
 pub gathered-parts : (s : Moments) (p : Float → Percentile) (deviation : Float) (median p01 p02 p05 p10 p25 p75 p90 p95 p98 p99 : Percentile) → deviation ≡ deviationOf s →
     median ≡ p half64 → p01 ≡ p (ofBits binary64 0x3f84_7ae1_47ae_147b) → p02 ≡ p (ofBits binary64 0x3f94_7ae1_47ae_147b) → p05 ≡ p (ofBits binary64 0x3fa9_9999_9999_999a) → p10 ≡ p (ofBits binary64 0x3fb9_9999_9999_999a) → p25 ≡ p (ofBits binary64 0x3fd0_0000_0000_0000) → p75 ≡ p (ofBits binary64 0x3fe8_0000_0000_0000) → p90 ≡ p (ofBits binary64 0x3fec_cccc_cccc_cccd) → p95 ≡ p (ofBits binary64 0x3fee_6666_6666_6666) → p98 ≡ p (ofBits binary64 0x3fef_5c28_f5c2_8f5c) → p99 ≡ p (ofBits binary64 0x3fef_ae14_7ae1_47ae) →
     record {
-      «valid_count» = s .count; «min_db» = s .«min_db»; «max_db» = s .«max_db»; «mean_db» = s .mean; «std_db» = deviation; «median_db» = median .value;
-      p01 = p01 .value; p02 = p02 .value; p05 = p05 .value; p10 = p10 .value; p25 = p25 .value; p75 = p75 .value; p90 = p90 .value; p95 = p95 .value; p98 = p98 .value; p99 = p99 .value
+      «valid_count» = s .count;
+      «min_db» = s .«min_db»;
+      «max_db» = s .«max_db»;
+      «mean_db» = s .mean;
+      «std_db» = deviation;
+      «median_db» = median .value;
+      p01 = p01 .value;
+      p02 = p02 .value;
+      p05 = p05 .value;
+      p10 = p10 .value;
+      p25 = p25 .value;
+      p75 = p75 .value;
+      p90 = p90 .value;
+      p95 = p95 .value;
+      p98 = p98 .value;
+      p99 = p99 .value;
     }
     ≡ gathered s p
 unfolding gathered

@@ -17,7 +17,7 @@ withExtreme s v =
       «min_db» = cond (first || lt v (s .«min_db»)) v (s .«min_db»);
       «max_db» = cond (first || lt (s .«max_db») v) v (s .«max_db»);
       mean = s .mean;
-      m2 = s .m2
+      m2 = s .m2;
     }
 
 unfoldable pub extremesFrom : Moments → List Float → Moments
@@ -32,6 +32,20 @@ meanless s = record { count = s .count; «min_db» = s .«min_db»; «max_db» =
 unfoldable pub withMean : Float → Float → HistogramStats → HistogramStats
 withMean mean deviation s =
     record {
-      «valid_count» = s .«valid_count»; «min_db» = s .«min_db»; «max_db» = s .«max_db»; «mean_db» = mean; «std_db» = deviation; «median_db» = s .«median_db»;
-      p01 = s .p01; p02 = s .p02; p05 = s .p05; p10 = s .p10; p25 = s .p25; p75 = s .p75; p90 = s .p90; p95 = s .p95; p98 = s .p98; p99 = s .p99
+      «valid_count» = s .«valid_count»;
+      «min_db» = s .«min_db»;
+      «max_db» = s .«max_db»;
+      «mean_db» = mean;
+      «std_db» = deviation;
+      «median_db» = s .«median_db»;
+      p01 = s .p01;
+      p02 = s .p02;
+      p05 = s .p05;
+      p10 = s .p10;
+      p25 = s .p25;
+      p75 = s .p75;
+      p90 = s .p90;
+      p95 = s .p95;
+      p98 = s .p98;
+      p99 = s .p99;
     }

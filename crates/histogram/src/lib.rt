@@ -5,12 +5,12 @@ ghost use lib.ListN.{length};
 ghost use Rattle.spec.specs.Pixels.{pixels, validOf};
 ghost use Rattle.spec.specs.Statistics.{deviationOf, gathered, flatPercentile, summary, statisticsCall, readStatistics};
 ghost use Rattle.histogram.specs.Summary.{isFlat, spreadStats, statsFromBins};
-use types::Moments;
 use types::HistogramStats;
+use types::Moments;
 use types::StatisticsAnswer;
 
-pub mod moments;
 pub mod bins;
+pub mod moments;
 pub mod percentile;
 
 // "deviation = root of m2/count, 0 for count 1".
@@ -121,7 +121,12 @@ pub fn summary_of(db: &[f64], valid_mask: &[u8], m: Moments) -> HistogramStats
 }
 
 // The statistics call: refusals 1 to 4, then the record.
-pub fn compute_histogram_stats(rows: usize, cols: usize, db: &[f64], valid_mask: &[u8]) -> StatisticsAnswer
+pub fn compute_histogram_stats(
+    rows: usize,
+    cols: usize,
+    db: &[f64],
+    valid_mask: &[u8],
+) -> StatisticsAnswer
     ensures { λ r. ⌜ readStatistics r ≡ statisticsCall rows cols (now («valid_mask» .entry)) (now (db .entry)) ⌝ }
 {
     let refusal = raster::shape_refusal(rows, cols, db, valid_mask);

@@ -20,7 +20,13 @@ pub enum FirstPass {
 pub fn no_moments() -> Moments
     ensures { λ r. ⌜ r ≡ noMoments ⌝ }
 {
-    Moments { count: 0, min_db: 0.0, max_db: 0.0, mean: 0.0, m2: 0.0 }
+    Moments {
+        count: 0,
+        min_db: 0.0,
+        max_db: 0.0,
+        mean: 0.0,
+        m2: 0.0,
+    }
 }
 
 // The least with one value more: the first met stays among equals.
@@ -104,7 +110,8 @@ pub fn extremes(db: &[f64], valid_mask: &[u8]) -> FirstPass
     let mut m = no_moments();
     let mut i: usize = 0;
     while i < db.len() {
-        if valid_mask[i] != 0 {
+        let mark = valid_mask[i];
+        if mark != 0 {
             let v = db[i];
             if raster::decibel_refused(v) {
                 return FirstPass::BadDecibel;

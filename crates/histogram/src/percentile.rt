@@ -29,10 +29,18 @@ pub fn find_bin(hist: &[u32], target: u64) -> BinRank
         let size = hist[bin];
         let next = before + (size as u64);
         if target < next {
-            break BinRank { bin: bin, size: size, rank: target - before };
+            break BinRank {
+                bin: bin,
+                size: size,
+                rank: target - before,
+            };
         }
         if bin == 4095 {
-            break BinRank { bin: bin, size: size, rank: target - before };
+            break BinRank {
+                bin: bin,
+                size: size,
+                rank: target - before,
+            };
         }
         before = next;
         bin += 1;
@@ -54,11 +62,19 @@ pub fn value_at(min_db: f64, bin_width: f64, found: BinRank) -> f64
 }
 
 // The percentile of fraction p from count values in the bins.
-pub fn estimate_percentile(hist: &[u32], min_db: f64, bin_width: f64, count: u32, p: f64) -> Percentile
+pub fn estimate_percentile(
+    hist: &[u32],
+    min_db: f64,
+    bin_width: f64,
+    count: u32,
+    p: f64,
+) -> Percentile
     requires { ⌜ length (now hist) ≡ 4096 ⌝ }
     ensures { λ r. ⌜ r ≡ percentile «min_db» «bin_width» count (now (hist .entry)) p ⌝ }
 {
     let target = target_of(p, count);
     let found = find_bin(hist, target);
-    Percentile { value: value_at(min_db, bin_width, found) }
+    Percentile {
+        value: value_at(min_db, bin_width, found),
+    }
 }

@@ -7,9 +7,9 @@ use native.Mathlib.Omega.{arith}
 use mathlib.Core.Bool.{Bool, true, false, cond, true≢false}
 use borrow.Author.Tests.{le-ltb}
 use lib.IntN.{pos}
-use lib.Dec.{T, lit<}
-use lib.Ieee.{Float, nan, inf, fin, Format, binary64, up, down, round, neg, sum, add, sub, le, ofInt, toUnsigned}
-use lib.Ieee.Back.{round-whole}
+use lib.Dec.{T, lit<, le→leb}
+use lib.Ieee.{Float, nan, inf, fin, Format, binary64, up, down, round, neg, sum, add, sub, le, ofInt, toUnsigned, inFloat}
+use lib.Ieee.Back.{round-whole, unsigned-back}
 use lib.Ieee.Exact.{HasValue}
 use lib.Ieee.Fits.{down-pos}
 use lib.Ieee.Positive.{den, den-pos}
@@ -87,6 +87,13 @@ sub-values f (fin false m e) (fin false n d) a b g h k =
 pub count-value : (n : ℕ) → n ≤ 2 ^ 53 → HasValue (ofCount n) false n 1
 unfolding ofInt
 count-value n h = round-whole binary64 false n h
+
+pub count-finite : (n : ℕ) → n ≤ 2 ^ 53 → T (finite (ofCount n))
+count-finite n h = value-finite (ofCount n) n 1 (count-value n h)
+
+pub count-back : (w n : ℕ) → n ≤ 2 ^ 53 → n < 2 ^ w → toUnsigned w (ofCount n) ≡ n
+unfolding inFloat
+count-back w n h k = unsigned-back binary64 w n (le→leb n (2 ^ 53) h) k .1
 
 pub count-sub : (a b : ℕ) → a ≤ 2 ^ 53 → b ≤ a → sub binary64 (ofCount a) (ofCount b) ≡ ofCount (a - b)
 unfolding ofInt

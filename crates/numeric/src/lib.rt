@@ -46,9 +46,9 @@ pub fn abs_f64(x: f64) -> f64
 pub fn abs_f32(x: f32) -> f32
     ensures { λ r. ⌜ r ≡ magnitude x ⌝ }
 {
-    if x < 0.0 {
+    if x < 0.0f32 {
         -x
-    } else if x == 0.0 {
+    } else if x == 0.0f32 {
         0.0
     } else {
         x
@@ -72,8 +72,8 @@ pub fn f64_as_u64(x: f64) -> u64
 pub fn f32_as_u64(x: f32) -> u64
     ensures { λ r. ⌜ r ≡ toUnsigned 64 x ⌝ }
 {
-    if x > -1.0 {
-        if x < 18446744073709551616.0 {
+    if x > -1.0f32 {
+        if x < 18446744073709551616.0f32 {
             return std::num::truncating_f32_to_u64(x);
         }
         return 18446744073709551615;
@@ -190,10 +190,10 @@ pub fn round_small(x: f64) -> u32
 }
 
 // A whole-number root under way: its digits so far, what their square leaves, and the digits of the number to come.
-pub struct Rooting {
-    pub root: u64,
-    pub rest: u64,
-    pub digits: u64,
+struct Rooting {
+    root: u64,
+    rest: u64,
+    digits: u64,
 }
 
 // Two digits of the number more, and one of the root: 1 where the square stays within.

@@ -11,6 +11,7 @@ use Rattle.colour_tables.specs.Tables.{Table, Thresholds}
 use Rattle.synthetic_rgb.specs.declared.Composition.{Composition}
 use Rattle.synthetic_rgb.specs.declared.Composition.the-variants.{Plain, Suppressed}
 
+-- the default rule, or the suppressed one above f
 unfoldable pub redOf : Composition → ℕ → ℕ
 redOf Plain v = red v
 redOf (Suppressed f) v = redAbove f v
@@ -24,7 +25,7 @@ abbrev pub epsilonOf : Composition → ℕ
 epsilonOf Plain = 0
 epsilonOf (Suppressed f) = 8
 
--- ten times the largest blue of an even ratio, doubled
+-- twenty times the blue of an even ratio before rounding: 61.2, and 45.9 suppressed
 unfoldable pub scaleOf : Composition → ℕ
 scaleOf Plain = 1224
 scaleOf (Suppressed f) = 918

@@ -29,6 +29,7 @@ fn first_level(histogram: &[u32], target: u64) -> usize
     let mut before: u64 = 0;
     let mut level: usize = 0;
     let found = loop {
+        // Never taken: the counts sum to the total.
         if level == 256 {
             break 0;
         }

@@ -38,7 +38,7 @@ returns-2 : tie.Need-returns-2
 returns-2 c =
     let b = c .before .before .before in
     let d = b .before in
-    c .root-of2 .ensures ∙ normal (d .args .x) _ (b .if1 .taken) (fields (d .args .x) (holds (d .good .0 .1)) (b .if1 .taken)) (c .before .before .if2 .left) (c .before .if3 .taken)
+    c .root-of2 .ensures ∙ normal (d .args .x) _ (b .if1 .taken) (fields (d .args .x) (holds (d .good .0 .1)) (b .if1 .taken)) (c .before .before .if2 .left) (omega (arith, c .before .if3 .taken))
 
 returns-3 : tie.Need-returns-3
 returns-3 c =

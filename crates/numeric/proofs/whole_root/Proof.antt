@@ -33,7 +33,7 @@ loop-again c =
     let l = c .before .before .loop in
     let r = c .next-digit .result in
     let e = c .next-digit .ensures in
-    step (c .before .before .before .args .digits) (l .s .root) (l .s .rest) (l .s .digits) (l .i) (r .root) (r .rest) (r .digits) (l .inv) (c .before .loop-test .taken) (e .0) (e .1 .0) (e .1 .1 .0) (e .1 .1 .1)
+    step (c .before .before .before .args .digits) (l .s .root) (l .s .rest) (l .s .digits) (l .i) (r .root) (r .rest) (r .digits) (l .inv) (omega (arith, c .before .loop-test .taken)) (e .0) (e .1 .0) (e .1 .1 .0) (e .1 .1 .1)
 
 returns : tie.Need-returns Inv-loop μ-loop
 returns c =

@@ -64,8 +64,11 @@ loop-again c =
     let m = a .valid-mask .now in
     let d = a .db .now in
     ⊎-elim
-    (λ w. (omega arith, l .loop .inv .1 ∙ ap (any badPixel) (next-on m d i (omega arith) (omega arith) (w .0 .taken))
-      ∙ any-not-here badPixel (on (getD d i nan)) _ (sym (w .2 .ensures) ∙ w .3 .left)))
+    (λ w. (
+      omega arith,
+      l .loop .inv .1 ∙ ap (any badPixel) (next-on m d i (omega arith) (omega arith) (w .0 .taken))
+          ∙ any-not-here badPixel (on (getD d i nan)) _ (sym (w .2 .ensures) ∙ w .3 .left),
+    ))
     (λ w. (omega arith, l .loop .inv .1 ∙ ap (any badPixel) (next-off m d i (omega arith) (omega arith) (w .left)) ∙ any-not-here badPixel off _ bad-off))
     (c .if1 .came)
 

@@ -1,3 +1,4 @@
+-- `synthetic_rgb::compose_by_mode_and_strategy` meets its contract: each arm has the colours of its strategies. Assumes nothing.
 use mathlib.Core.Path.{_≡_, refl}
 use mathlib.Core.Bool.{true, false}
 use mathlib.Core.List.{[], _∷_}
@@ -11,10 +12,6 @@ use Rattle.spec.specs.Colour.{coloursOf}
 use borrow.Author.Needs.{needs}
 use Rattle.synthetic_rgb.proofs.compose_by_mode_and_strategy.Statement.{statement}
 use Rattle.synthetic_rgb.proofs.compose_by_mode_and_strategy.Tie as tie
-use Rattle.synthetic_rgb.proofs.compose_by_mode_and_strategy.Reads as reads
-use Rattle.synthetic_rgb.proofs.compose_by_mode_and_strategy.Lts as lts
-use Rattle.synthetic_rgb.proofs.create_synthetic_rgb_by_mode.Reads as create-synthetic-rgb-by-mode-reads
-use Rattle.synthetic_rgb.proofs.create_synthetic_rgb_suppressed.Reads as create-synthetic-rgb-suppressed-reads
 
 -- what each arm of the match says of the strategy
 suppressed-arm : (s : AutoscaleStrategy) → OneOf (5 ∷ 4 ∷ []) (tagOf the-type s) → isSuppressed s ≡ true

@@ -1,14 +1,9 @@
+-- `synthetic_rgb::create_synthetic_rgb` meets its contract: the tables are those of the default colours. Assumes nothing.
 use Rattle.synthetic_rgb.specs.Palette.{redOf, greenOf, scaleOf}
 use Rattle.synthetic_rgb.proofs.Rules.{colour-plain}
 use borrow.Author.Needs.{needs}
 use Rattle.synthetic_rgb.proofs.create_synthetic_rgb.Statement.{statement}
 use Rattle.synthetic_rgb.proofs.create_synthetic_rgb.Tie as tie
-use Rattle.synthetic_rgb.proofs.create_synthetic_rgb.Reads as reads
-use Rattle.synthetic_rgb.proofs.create_synthetic_rgb.Lts as lts
-use Rattle.colour_tables.proofs.blue_thresholds.Reads as blue-thresholds-reads
-use Rattle.colour_tables.proofs.green_table.Reads as green-table-reads
-use Rattle.colour_tables.proofs.red_table.Reads as red-table-reads
-use Rattle.synthetic_rgb.proofs.pixels.colours.Reads as colours-reads
 
 red-table-requires : tie.Need-red-table-requires
 red-table-requires c κs = search needs

@@ -1,16 +1,12 @@
+-- `synthetic_rgb::create_synthetic_rgb_by_mode_and_strategy` meets its contract: each test is a refusal of the definition, in its order. Assumes nothing.
 use mathlib.Core.Path.{refl}
 use borrow.Author.Tests.{eq-eqb, ne-eqb, lt-ltb, le-ltb}
 use Rattle.spec.specs.Answer.{firstOf, orRefused, answer, number, replyNumber, after}
 use Rattle.spec.specs.Refusals.{unlike, tooLong}
 use Rattle.spec.specs.Colour.{composition}
 use borrow.Author.Needs.{needs}
-use Rattle.synthetic_rgb.proofs.create_synthetic_rgb_by_mode_and_strategy.Statement.{
-  statement,
-}
+use Rattle.synthetic_rgb.proofs.create_synthetic_rgb_by_mode_and_strategy.Statement.{statement}
 use Rattle.synthetic_rgb.proofs.create_synthetic_rgb_by_mode_and_strategy.Tie as tie
-use Rattle.synthetic_rgb.proofs.create_synthetic_rgb_by_mode_and_strategy.Reads as reads
-use Rattle.synthetic_rgb.proofs.create_synthetic_rgb_by_mode_and_strategy.Lts as lts
-use Rattle.synthetic_rgb.proofs.compose_by_mode_and_strategy.Reads as compose-by-mode-and-strategy-reads
 
 returns : tie.Need-returns
 unfolding composition unlike tooLong firstOf answer orRefused number replyNumber after

@@ -1,3 +1,4 @@
+-- `synthetic_rgb::create_synthetic_rgb_suppressed` meets its contract: the tables are those of the floor. Assumes nothing.
 use native.Mathlib.Omega.{arith}
 use Rattle.synthetic_rgb.specs.Palette.{redOf, greenOf, scaleOf}
 use Rattle.synthetic_rgb.proofs.Rules.{colour-suppressed}
@@ -5,13 +6,6 @@ use Rattle.synthetic_rgb.proofs.Counted.{floor-range}
 use borrow.Author.Needs.{needs}
 use Rattle.synthetic_rgb.proofs.create_synthetic_rgb_suppressed.Statement.{statement}
 use Rattle.synthetic_rgb.proofs.create_synthetic_rgb_suppressed.Tie as tie
-use Rattle.synthetic_rgb.proofs.create_synthetic_rgb_suppressed.Reads as reads
-use Rattle.synthetic_rgb.proofs.create_synthetic_rgb_suppressed.Lts as lts
-use Rattle.colour_tables.proofs.blue_above_thresholds.Reads as blue-above-thresholds-reads
-use Rattle.colour_tables.proofs.green_above_table.Reads as green-above-table-reads
-use Rattle.colour_tables.proofs.red_above_table.Reads as red-above-table-reads
-use Rattle.synthetic_rgb.proofs.floor.floor_level.Reads as floor-level-reads
-use Rattle.synthetic_rgb.proofs.pixels.colours.Reads as colours-reads
 
 floor-level-requires : tie.Need-floor-level-requires
 floor-level-requires c κs = search needs

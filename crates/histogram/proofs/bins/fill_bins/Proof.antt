@@ -69,13 +69,19 @@ loop-again c =
     let i = l .loop .i in
     ⊎-elim
     (λ w.
-      rw (w .4)
-      (omega arith, simp length-set (omega arith), added-most h (a .hist .now) (w .2 .result) i (l .loop .inv .2),
-       l .loop .inv .3 ∙ filled-one f h (a .valid-mask .now) (a .db .now) i (omega arith) (omega arith) (w .0 .taken) (w .2 .result) (w .2 .ensures .0)))
+    rw (w .4) (
+      omega arith,
+      simp length-set (omega arith),
+      added-most h (a .hist .now) (w .2 .result) i (l .loop .inv .2),
+      l .loop .inv .3 ∙ filled-one f h (a .valid-mask .now) (a .db .now) i (omega arith) (omega arith) (w .0 .taken) (w .2 .result) (w .2 .ensures .0),
+    ))
     (λ w.
-      rw (w .1)
-      (omega arith, omega arith, λ k. omega (arith, l .loop .inv .2 k),
-       l .loop .inv .3 ∙ filled-skip f h (a .valid-mask .now) (a .db .now) i (omega arith) (omega arith) (w .0 .left)))
+    rw (w .1) (
+      omega arith,
+      omega arith,
+      λ k. omega (arith, l .loop .inv .2 k),
+      l .loop .inv .3 ∙ filled-skip f h (a .valid-mask .now) (a .db .now) i (omega arith) (omega arith) (w .0 .left),
+    ))
     (c .if1 .came)
 
 same-length : tie.Need-same-length Inv-loop μ-loop

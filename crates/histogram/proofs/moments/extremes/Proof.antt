@@ -23,8 +23,8 @@ no-moments-requires c κs = search needs
 loop-holds : tie.Need-loop-holds Inv-loop μ-loop
 loop-holds c = start extremes-fold _ _ _ (c .no-moments .ensures)
 
-shared-slice-read-if1 : tie.Need-shared-slice-read-if1 Inv-loop μ-loop
-shared-slice-read-if1 c = search needs
+shared-slice-read-mark : tie.Need-shared-slice-read-mark Inv-loop μ-loop
+shared-slice-read-mark c = search needs
 
 mul-v : tie.Need-mul-v Inv-loop μ-loop
 mul-v c = search needs
@@ -76,7 +76,7 @@ extremes-spec =
     μ-loop
     no-moments-requires
     loop-holds
-    shared-slice-read-if1
+    shared-slice-read-mark
     mul-v
     shared-slice-read-v
     decibel-refused-requires

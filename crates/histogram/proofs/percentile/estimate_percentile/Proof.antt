@@ -24,9 +24,10 @@ value-at-requires c κs =
     let h = s .args .hist .now in
     let e = c .find-bin .ensures in
     let b = ap (λ (r : BinRank). r .bin) e in
-    let w = ap (λ (r : BinRank). r .rank) e in
-    (omega (arith, b, s .pre, seek-bin-most (t .result) 0 0 h (omega (arith, s .pre))),
-     omega (arith, w, seek-rank-most (t .result) 0 0 h, s .fits .count, t .ensures, target-most (s .args .p) (s .args .count)))
+    let w = ap (λ (r : BinRank). r .rank) e in (
+      omega (arith, b, s .pre, seek-bin-most (t .result) 0 0 h (omega (arith, s .pre))),
+      omega (arith, w, seek-rank-most (t .result) 0 0 h, s .fits .count, t .ensures, target-most (s .args .p) (s .args .count)),
+    )
 
 returns : tie.Need-returns
 unfolding percentile

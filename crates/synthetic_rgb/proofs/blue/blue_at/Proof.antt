@@ -1,9 +1,7 @@
+-- `synthetic_rgb::blue::blue_at` meets its contract: 0 in the dark, else the place. Assumes nothing.
 use borrow.Author.Needs.{needs}
 use Rattle.synthetic_rgb.proofs.blue.blue_at.Statement.{statement}
 use Rattle.synthetic_rgb.proofs.blue.blue_at.Tie as tie
-use Rattle.synthetic_rgb.proofs.blue.blue_at.Reads as reads
-use Rattle.synthetic_rgb.proofs.blue.blue_at.Lts as lts
-use Rattle.synthetic_rgb.proofs.blue.is_dark.Reads as is-dark-reads
 
 -- src/blue.rt:67:8
 is-dark-requires : tie.Need-is-dark-requires

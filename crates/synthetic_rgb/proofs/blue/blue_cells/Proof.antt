@@ -1,3 +1,4 @@
+-- `synthetic_rgb::blue::blue_cells` meets its contract: each cell before i has its blue, and within a row the place before is reached. Assumes nothing.
 use mathlib.Core.Path.{_≡_, refl, _∙_}
 use mathlib.Core.Bool.{cond}
 use mathlib.Core.List.{List}
@@ -14,11 +15,6 @@ use Rattle.synthetic_rgb.proofs.Rules.{reds-rise, reached-more, rank-re
 use borrow.Author.Needs.{needs}
 use Rattle.synthetic_rgb.proofs.blue.blue_cells.Statement.{statement}
 use Rattle.synthetic_rgb.proofs.blue.blue_cells.Tie as tie
-use Rattle.synthetic_rgb.proofs.blue.blue_cells.Reads as reads
-use Rattle.synthetic_rgb.proofs.blue.blue_cells.Lts as lts
-use Rattle.synthetic_rgb.proofs.blue.blue_at.Reads as blue-at-reads
-use Rattle.synthetic_rgb.proofs.blue.place_from.Reads as place-from-reads
-use Rattle.synthetic_rgb.proofs.blue.start.Reads as start-reads
 
 -- within a row, the pair before reaches the place
 abbrev Placed : Composition → List ℕ → ℕ → ℕ → Type 0

@@ -1,9 +1,8 @@
+-- `synthetic_rgb::blue::is_dark` meets its contract: each arm's test is that of its composition. Assumes nothing.
 use borrow.Author.Tests.{le-leb, lt-leb}
 use borrow.Author.Needs.{needs}
 use Rattle.synthetic_rgb.proofs.blue.is_dark.Statement.{statement}
 use Rattle.synthetic_rgb.proofs.blue.is_dark.Tie as tie
-use Rattle.synthetic_rgb.proofs.blue.is_dark.Reads as reads
-use Rattle.synthetic_rgb.proofs.blue.is_dark.Lts as lts
 
 -- src/blue.rt:47:31
 enum-told : tie.Need-enum-told

@@ -1,10 +1,7 @@
+-- `synthetic_rgb::blue::place_from` meets its contract: the search with the epsilon added to both sides. Assumes nothing.
 use borrow.Author.Needs.{needs}
 use Rattle.synthetic_rgb.proofs.blue.place_from.Statement.{statement}
 use Rattle.synthetic_rgb.proofs.blue.place_from.Tie as tie
-use Rattle.synthetic_rgb.proofs.blue.place_from.Reads as reads
-use Rattle.synthetic_rgb.proofs.blue.place_from.Lts as lts
-use Rattle.synthetic_rgb.proofs.blue.epsilon.Reads as epsilon-reads
-use Rattle.synthetic_rgb.proofs.blue.rank_from.Reads as rank-from-reads
 
 epsilon-requires : tie.Need-epsilon-requires
 epsilon-requires c κs = search needs

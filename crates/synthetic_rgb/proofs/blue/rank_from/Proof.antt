@@ -1,3 +1,4 @@
+-- `synthetic_rgb::blue::rank_from` meets its contract: the place so far is reached, and the next is tested. Assumes nothing.
 use mathlib.Core.Path.{_≡_}
 use Prim.Native.Nat.{ℕ, _+_, _*_, _-_, _^_, _≤_, _<_}
 use native.Mathlib.Omega.{arith}
@@ -7,8 +8,6 @@ use Rattle.synthetic_rgb.specs.Palette.{Reached}
 use borrow.Author.Needs.{needs}
 use Rattle.synthetic_rgb.proofs.blue.rank_from.Statement.{statement}
 use Rattle.synthetic_rgb.proofs.blue.rank_from.Tie as tie
-use Rattle.synthetic_rgb.proofs.blue.rank_from.Reads as reads
-use Rattle.synthetic_rgb.proofs.blue.rank_from.Lts as lts
 
 small : {x g : ℕ} → x < 65536 → g ≤ 263 → x * g < 2 ^ 64
 small {x} hx hg = let h : x * _ ≤ 65535 * 263 = mul-le-mul {n₂ = 65535} (omega arith) hg in omega arith

@@ -1,8 +1,7 @@
+-- `synthetic_rgb::blue::start` meets its contract: 0 in a new row, else the place before. Assumes nothing.
 use borrow.Author.Tests.{eq-eqb, ne-eqb}
 use Rattle.synthetic_rgb.proofs.blue.start.Statement.{statement}
 use Rattle.synthetic_rgb.proofs.blue.start.Tie as tie
-use Rattle.synthetic_rgb.proofs.blue.start.Reads as reads
-use Rattle.synthetic_rgb.proofs.blue.start.Lts as lts
 
 -- src/blue.rt:71:1
 returns : tie.Need-returns

@@ -1,3 +1,4 @@
+-- `synthetic_rgb::floor::count_both` meets its contract: the counts of one band, then of the other, are those of both. Assumes nothing.
 use mathlib.Core.Path.{ap, _∙_}
 use mathlib.Core.List.{List}
 use Prim.Native.Nat.{ℕ}
@@ -7,9 +8,6 @@ use Rattle.synthetic_rgb.proofs.Counted.{stored-most, stored-append}
 use borrow.Author.Needs.{needs}
 use Rattle.synthetic_rgb.proofs.floor.count_both.Statement.{statement}
 use Rattle.synthetic_rgb.proofs.floor.count_both.Tie as tie
-use Rattle.synthetic_rgb.proofs.floor.count_both.Reads as reads
-use Rattle.synthetic_rgb.proofs.floor.count_both.Lts as lts
-use Rattle.synthetic_rgb.proofs.floor.count_levels.Reads as count-levels-reads
 
 count-levels-requires : tie.Need-count-levels-requires
 count-levels-requires c κs = (search needs, search needs, λ k. omega (arith, c .before .before .before .before .pre .3 k))

@@ -1,3 +1,4 @@
+-- `synthetic_rgb::floor::count_levels` meets its contract: the counts so far, with the bytes left, make the counts of all. Assumes nothing.
 use mathlib.Core.Path.{_≡_, sym, ap, _∙_}
 use Prim.Native.Nat.{ℕ, _+_, _-_, _≤_}
 use native.Mathlib.Omega.{arith}
@@ -7,9 +8,6 @@ use Rattle.synthetic_rgb.proofs.Counted.{stored-step, stored-end, added
 use borrow.Author.Needs.{needs}
 use Rattle.synthetic_rgb.proofs.floor.count_levels.Statement.{statement}
 use Rattle.synthetic_rgb.proofs.floor.count_levels.Tie as tie
-use Rattle.synthetic_rgb.proofs.floor.count_levels.Reads as reads
-use Rattle.synthetic_rgb.proofs.floor.count_levels.Lts as lts
-use Rattle.synthetic_rgb.proofs.casts.index.Reads as index-reads
 
 abbrev Inv-loop : tie.InvT-loop
 Inv-loop band histogram₀ i₀ histogram i =

@@ -1,3 +1,4 @@
+-- `synthetic_rgb::floor::first_level` meets its contract: the levels left, from the count so far, give the answer. Assumes nothing.
 use mathlib.Core.Path.{_≡_, sym, ap, _∙_}
 use mathlib.Core.Bool.{Bool, cond}
 use Prim.Native.Nat.{ℕ, _+_, _*_, _-_, _≤_}
@@ -9,8 +10,6 @@ use Rattle.synthetic_rgb.proofs.Counted.{level-step, level-end}
 use borrow.Author.Needs.{needs}
 use Rattle.synthetic_rgb.proofs.floor.first_level.Statement.{statement}
 use Rattle.synthetic_rgb.proofs.floor.first_level.Tie as tie
-use Rattle.synthetic_rgb.proofs.floor.first_level.Reads as reads
-use Rattle.synthetic_rgb.proofs.floor.first_level.Lts as lts
 
 abbrev Inv-loop : tie.InvT-loop
 Inv-loop histogram target before₀ level₀ before level =

@@ -1,3 +1,4 @@
+-- `synthetic_rgb::floor::floor_level` meets its contract: the counts by storing are the counts of both bands. Assumes nothing.
 use mathlib.Core.Path.{ap, _∙_}
 use mathlib.Core.List.{_++_}
 use Prim.Native.Nat.{ℕ, _+_, _/_, min}
@@ -9,11 +10,6 @@ use Rattle.synthetic_rgb.proofs.Counted.{below-all, below-append, zeros
 use borrow.Author.Needs.{needs}
 use Rattle.synthetic_rgb.proofs.floor.floor_level.Statement.{statement}
 use Rattle.synthetic_rgb.proofs.floor.floor_level.Tie as tie
-use Rattle.synthetic_rgb.proofs.floor.floor_level.Reads as reads
-use Rattle.synthetic_rgb.proofs.floor.floor_level.Lts as lts
-use Rattle.synthetic_rgb.proofs.floor.count_both.Reads as count-both-reads
-use Rattle.synthetic_rgb.proofs.floor.cushioned.Reads as cushioned-reads
-use Rattle.synthetic_rgb.proofs.floor.first_level.Reads as first-level-reads
 
 slice-aggregate-count-both : tie.Need-slice-aggregate-count-both
 slice-aggregate-count-both c = search needs

@@ -1,3 +1,4 @@
+-- `synthetic_rgb::pixels::by_pixel` meets its contract: what is written and what is left make the whole. Assumes nothing.
 use Prim.Native.Nat.{_-_}
 use native.Mathlib.Omega.{arith}
 use lib.ListN.{length}
@@ -6,10 +7,6 @@ use Rattle.synthetic_rgb.proofs.Painted.{Painted, painted-step, painted
 use borrow.Author.Needs.{needs}
 use Rattle.synthetic_rgb.proofs.pixels.by_pixel.Statement.{statement}
 use Rattle.synthetic_rgb.proofs.pixels.by_pixel.Tie as tie
-use Rattle.synthetic_rgb.proofs.pixels.by_pixel.Reads as reads
-use Rattle.synthetic_rgb.proofs.pixels.by_pixel.Lts as lts
-use Rattle.synthetic_rgb.proofs.pixels.colour_at.Reads as colour-at-reads
-use Rattle.synthetic_rgb.proofs.pixels.put.Reads as put-reads
 
 abbrev Inv-loop : tie.InvT-loop
 Inv-loop kind red green thresholds band1-data band2-data rgb-data₀ i₀ j₀ rgb-data i j =

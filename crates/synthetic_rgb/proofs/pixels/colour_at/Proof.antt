@@ -1,13 +1,9 @@
+-- `synthetic_rgb::pixels::colour_at` meets its contract: red and green by their tables, blue by its place. Assumes nothing.
 use native.Mathlib.Omega.{arith}
 use Rattle.synthetic_rgb.proofs.Rules.{colour-is}
 use borrow.Author.Needs.{needs}
 use Rattle.synthetic_rgb.proofs.pixels.colour_at.Statement.{statement}
 use Rattle.synthetic_rgb.proofs.pixels.colour_at.Tie as tie
-use Rattle.synthetic_rgb.proofs.pixels.colour_at.Reads as reads
-use Rattle.synthetic_rgb.proofs.pixels.colour_at.Lts as lts
-use Rattle.synthetic_rgb.proofs.blue.blue_at.Reads as blue-at-reads
-use Rattle.synthetic_rgb.proofs.blue.place_from.Reads as place-from-reads
-use Rattle.synthetic_rgb.proofs.casts.index.Reads as index-reads
 
 index-requires : tie.Need-index-requires
 index-requires c κs = search needs

@@ -1,10 +1,9 @@
+-- `synthetic_rgb::pixels::put` meets its contract: three stores. Assumes nothing.
 use native.Mathlib.Omega.{arith}
 use lib.ListN.{length-set}
 use borrow.Author.Needs.{needs}
 use Rattle.synthetic_rgb.proofs.pixels.put.Statement.{statement}
 use Rattle.synthetic_rgb.proofs.pixels.put.Tie as tie
-use Rattle.synthetic_rgb.proofs.pixels.put.Reads as reads
-use Rattle.synthetic_rgb.proofs.pixels.put.Lts as lts
 
 slice-write-rgb-data : tie.Need-slice-write-rgb-data
 slice-write-rgb-data c = search needs

@@ -1,0 +1,400 @@
+-- Bounds on every field of the record for dB from -1000 to 1000, and that no percentile lies below the least. Assumes nothing.
+use mathlib.Core.Path.{_≡_, refl, sym, ap, _∙_, subst}
+use mathlib.Core.Logic.{inl}
+use mathlib.Core.Bool.{Bool, true, false, not, cond, _&&_}
+use mathlib.Core.List.{List, [], _∷_, map, zipWith}
+use Prim.Native.Nat.{ℕ, zero, suc, _+_, _-_, _*_, _^_, _≤_, _<_, zero-le}
+use native.Mathlib.Nat.{le-trans, le-of-eq, lt-of-lt-of-le, lt-of-not-le, not-le-of-lt, mul-assoc, mul-comm, mul-left-comm, zero-mul, mul-pos, mul-le-mul, mul-le-mul-right, le-of-mul-le-mul-right, suc-mul, mul-mul-mul-comm, le-of-lt}
+use native.Mathlib.Omega.{arith}
+use native.Mathlib.Decide.{decLe}
+use borrow.Author.Tests.{ltb-true}
+use lib.IntN.{pos}
+use lib.Dec.{T, ltb, lit<, lt→ltb}
+use lib.Pow.{pow-add, pow-pos, pow-mono}
+use lib.ListN.{length, getD}
+use lib.Ieee.{Float, nan, inf, fin, binary64, up, add, sub, mul, div, le, lt, fits, round, ofInt, ofBits}
+use lib.Ieee.Fits.{add-fits, sub-fits, mul-fits, div-fits, ofInt-fits, up-pos}
+use lib.Ieee.Order.{le-of-values}
+use lib.Ieee.Positive.{num, den, den-pos}
+use Rattle.types.specs.declared.BinRank.{BinRank}
+use Rattle.types.specs.declared.Percentile.{Percentile}
+use Rattle.types.specs.declared.HistogramStats.{HistogramStats}
+use Rattle.types.specs.declared.Moments.{Moments}
+use Rattle.spec.specs.Floats.{zero64, half64, one64, ofCount}
+use Rattle.spec.specs.Bins.{bins64, binOf, histogram}
+use Rattle.spec.specs.Lists.{sumOf, any}
+use Rattle.spec.specs.Moments.{noMoments, momentsFrom}
+use Rattle.spec.specs.Percentile.{target, seek, valueAt, percentile}
+use Rattle.spec.specs.Root.{root}
+use Rattle.spec.specs.Statistics.{deviationOf, gathered, flatPercentile, spreadPercentile, flat64, summary, summaryOf, statisticsOf}
+use Rattle.spec.specs.Pixels.{off, on, pixel, pixels, validOf}
+use Rattle.spec.specs.Refusals.{badPixel, badDecibel}
+use Rattle.numeric.proofs.Facts.{thousand, minus-thousand}
+use Rattle.numeric.specs.Correct.{NearestRoot}
+use Rattle.numeric.proofs.Correct.{root-nearest}
+use Rattle.numeric.proofs.Order.{plus, less, number-of-finite, le-refl, le-trans as le-trans'}
+use Rattle.numeric.proofs.Ops.{div-rounds, num-pos, sub-nonneg}
+use Rattle.numeric.proofs.Picks.{either}
+use Rattle.numeric.proofs.Values.{value-finite, value-plus, value-less, count-value, nothing-less}
+use Rattle.numeric.proofs.Within.{Within, within-lit, within-weaken, whole-within, rounds-within, add-within, sub-within, mul-within}
+use Rattle.raster.proofs.Bands.{or-false}
+use Rattle.histogram.proofs.Units.{units, zero-units, zero-more, zero-fewer, le-units, add-over, div-over, count-positive, count-num}
+use Rattle.histogram.proofs.Welford.{Sound, Decibel, Each, product-over, sound-moments}
+use Rattle.histogram.proofs.Counting.{First, target-first, bins-sum, histogram-length, none-count}
+
+-- ---- the deviation
+
+module _ (n : ℕ) (l : n ≤ 2 ^ 53) (h : 0 < n) where
+  -- what is at most k for each of n values, divided by n
+  shared-within : (k : ℕ) → k ≤ 2 ^ 53 → (x : Float) → Within (k * n) x → Within k (div binary64 x (ofCount n))
+  shared-within k b x w =
+      rounds-within binary64 k b (div binary64 x (ofCount n)) (plus x * den (ofCount n)) (less x * den (ofCount n)) (num (ofCount n) * den x)
+      (mul-pos (num-pos (ofCount n) (count-positive n l h)) (den-pos x)) (div-rounds binary64 x (ofCount n) (w .is-finite) (count-positive n l h))
+      (more _ _ _ (side (plus x) (w .above))) (more _ _ _ (side (less x) (w .under)))
+    where
+      more : (p N m : ℕ) → p ≤ N → p ≤ N + m
+      more p N m h = omega arith
+
+      turn : (k n d D : ℕ) → k * n * d * D ≡ k * (n * D * d)
+      turn k n d D = simp (mul-assoc, mul-comm, mul-left-comm)
+
+      side : (p : ℕ) → p ≤ k * n * den x → p * den (ofCount n) ≤ k * (num (ofCount n) * den x)
+      side p g = le-trans (mul-le-mul-right (den (ofCount n)) g) (le-of-eq (turn k n (den x) (den (ofCount n)) ∙ ap (λ (z : ℕ). k * (z * den x)) (sym (count-num n l h))))
+
+zero-small : Within 2000 zero64
+unfolding ofBits
+zero-small = within-lit 2000 zero64 tt
+
+-- ---- the root of at most 4,000,000 is at most 2,000
+
+by-squares : (A B N d : ℕ) → A * A * d < N * (B * B) → N ≤ 4000000 * d → A < 2000 * B
+by-squares A B N d h k =
+    lt-of-not-le (λ (l : 2000 * B ≤ A).
+    not-le-of-lt h (le-trans (mul-le-mul-right (B * B) k) (le-trans (le-of-eq (turn B d)) (mul-le-mul-right d (mul-le-mul l l)))))
+  where
+    turn : (B d : ℕ) → 4000000 * d * (B * B) ≡ 2000 * B * (2000 * B) * d
+    turn B d = mul-assoc 4000000 d (B * B) ∙ ap (λ (z : ℕ). 4000000 * z) (mul-comm d (B * B)) ∙ sym (mul-assoc 4000000 (B * B) d) ∙ ap (λ (z : ℕ). z * d) (square-of B)
+      where
+        square-of : (B : ℕ) → 4000000 * (B * B) ≡ 2000 * B * (2000 * B)
+        square-of B = sym (mul-mul-mul-comm 2000 B 2000 B)
+
+finer : (s E T : ℕ) → (2 * s - 1) * E < 4000 * T * E → s * E ≤ 2000 * T * E
+finer s E T h =
+    let l : 2 * s - 1 < 4000 * T = lt-of-not-le (λ (k : 4000 * T ≤ 2 * s - 1). not-le-of-lt h (mul-le-mul-right E k)) in
+    mul-le-mul-right E (omega arith)
+
+coarser : (s E G : ℕ) → 4000 ≤ 2 * s - 1 → G ≤ E → (2 * s - 1) * E < 4000 * G → ⊥
+coarser s E G l g h = not-le-of-lt h (mul-le-mul l g)
+
+root-size : (s h : ℕ) → 2 ^ 52 ≤ s → (2 * s - 1) * 2 ^ h < 4000 * 2 ^ 644 → s * 2 ^ h ≤ 2000 * 2 ^ 644
+root-size s h l g = go (decLe h 644)
+  where
+    split : (k : ℕ) → k ≤ 644 → 2 ^ 644 ≡ 2 ^ (644 - k) * 2 ^ k
+    split k c = ap (λ (z : ℕ). 2 ^ z) (let e : 644 ≡ 644 - k + k = omega arith in e) ∙ pow-add 2 (644 - k) k
+
+    go : Dec (h ≤ 644) → s * 2 ^ h ≤ 2000 * 2 ^ 644
+    go (yes c) =
+        let e = split h c in
+        le-trans (finer s (2 ^ h) (2 ^ (644 - h)) (lt-of-lt-of-le g (le-of-eq (ap (λ (z : ℕ). 4000 * z) e ∙ sym (mul-assoc 4000 (2 ^ (644 - h)) (2 ^ h))))))
+        (le-of-eq (mul-assoc 2000 (2 ^ (644 - h)) (2 ^ h) ∙ ap (λ (z : ℕ). 2000 * z) (sym e)))
+    go (no c) = absurd (coarser s (2 ^ h) (2 ^ 644) (omega arith) (pow-mono (le-of-lt (lt-of-not-le c))) g)
+
+root-most : (x r : Float) → num x ≤ 4000000 * den x → NearestRoot x r → Within 2000 r
+root-most x r b c =
+    let a : (2 * c .s - 1) * 2 ^ c .h < 2000 * 2 ^ 645 = by-squares ((2 * c .s - 1) * 2 ^ c .h) (2 ^ 645) (num x) (den x) (c .above) b in
+    let g : c .s * 2 ^ c .h ≤ 2000 * 2 ^ 644 = root-size (c .s) (c .h) (c .least) a in
+    let e = value-plus r (c .s * 2 ^ c .h) (2 ^ 644) (c .value) in
+    record {
+      is-finite = value-finite r (c .s * 2 ^ c .h) (2 ^ 644) (c .value);
+      above = le-of-mul-le-mul-right (le-trans (le-of-eq e) (le-trans (mul-le-mul-right (den r) g) (le-of-eq (mul-assoc 2000 (2 ^ 644) (den r) ∙ ap (λ (z : ℕ). 2000 * z) (mul-comm (2 ^ 644) (den r)) ∙ sym (mul-assoc 2000 (den r) (2 ^ 644)))))) (pow-pos 644);
+      under = le-trans (le-of-eq (value-less r (c .s * 2 ^ c .h) (2 ^ 644) (c .value))) zero-le;
+    }
+
+root-within : (x : Float) → T (fits binary64 x) → Within 4000000 x → T (le zero64 x) → Within 2000 (root x)
+unfolding root ofBits
+root-within nan f w o = absurd (w .is-finite)
+root-within (inf s) f w o = absurd (w .is-finite)
+root-within (fin true zero e) f w o = record { is-finite = tt; above = zero-le; under = le-trans (le-of-eq (zero-mul (up e))) zero-le }
+root-within (fin false zero e) f w o = record { is-finite = tt; above = le-trans (le-of-eq (zero-mul (up e))) zero-le; under = zero-le }
+root-within (fin true (suc m) e) f w o = let k = nothing-less (fin true (suc m) e) o in absurd (omega (arith, k, up-pos e, suc-mul m (up e)))
+root-within (fin false (suc m) e) f w o = root-most (fin false (suc m) e) (root (fin false (suc m) e)) (w .above) (root-nearest (fin false (suc m) e) f (lt→ltb 0 (suc m) (omega arith)))
+
+pub deviation-within : (s : Moments) → s .count ≤ 16777216 → Sound s → Within 2000 (deviationOf s)
+unfolding deviationOf
+deviation-within s l o = go (ltb 1 (s .count)) (ltb-true 1 (s .count))
+  where
+    q : Float
+    q = div binary64 (s .m2) (ofCount (s .count))
+
+    more : 1 < s .count → Within 2000 (root q)
+    more h =
+        let n : 0 < s .count = omega arith in
+        let b : s .count ≤ 2 ^ 53 = omega arith in
+        let w = shared-within (s .count) b n 4000000 (lit< tt) (s .m2) (o .m2-within) in
+        let u = units (s .m2) (o .m2-within .is-finite) (o .m2-fit) in
+        root-within q (div-fits binary64 (s .m2) (ofCount (s .count))) w
+        (div-over (s .count) b n (s .m2) zero64 u zero-units
+        (omega (arith, zero-more, zero-fewer, ap (λ (z : ℕ). z * s .count) zero-more, ap (λ (z : ℕ). z * s .count) zero-fewer, zero-mul (s .count), le-units zero64 (s .m2) zero-units u (o .m2-over))))
+
+    go : (t : Bool) → (t ≡ true → 1 < s .count) → Within 2000 (cond t (root q) zero64)
+    go true h = more (h refl)
+    go false h = zero-small
+
+-- ---- a value in a bin
+
+at-most-sum : (hs : List ℕ) (k : ℕ) → getD hs k 0 ≤ sumOf hs
+unfolding sumOf
+at-most-sum [] k = zero-le
+at-most-sum (h ∷ hs) zero = omega arith
+at-most-sum (h ∷ hs) (suc k) = omega (arith, at-most-sum hs k)
+
+count-nonneg : (n : ℕ) → n ≤ 2 ^ 53 → T (le zero64 (ofCount n))
+unfolding ofBits
+count-nonneg n l = le-of-values (fin false 0 (pos 0)) (ofCount n) 0 1 n 1 (lit< tt) (lit< tt) (refl, refl) (count-value n l) (omega arith)
+
+zero-below : (x : Float) → T (le zero64 x) → less x ≡ 0
+unfolding ofBits
+zero-below x h = nothing-less x h
+
+module _ (least width : Float) (fl : T (fits binary64 least)) (wl : Within 1000 least) (ww : Within 1 width) (pw : T (le zero64 width))
+    (r : BinRank) (b : r .bin ≤ 4095) (k : r .rank < r .size) (m : r .size ≤ 16777216) where
+  offset : Float
+  offset = mul binary64 (ofCount (r .bin)) width
+
+  share : Float
+  share = div binary64 (ofCount (r .rank)) (ofCount (r .size))
+
+  offset-within : Within 4095 offset
+  unfolding offset
+  offset-within = mul-within binary64 4095 1 (lit< tt) (ofCount (r .bin)) width (within-weaken (ofCount (r .bin)) b (whole-within binary64 (r .bin) (omega arith))) ww
+
+  offset-over : T (le zero64 offset)
+  unfolding offset
+  offset-over =
+      product-over (ofCount (r .bin)) width (whole-within binary64 (r .bin) (omega arith) .is-finite) (ww .is-finite)
+      (inl (zero-below (ofCount (r .bin)) (count-nonneg (r .bin) (omega arith)), zero-below width pw))
+
+  share-within : Within 1 share
+  unfolding share
+  share-within =
+      shared-within (r .size) (omega arith) (omega arith) 1 (lit< tt) (ofCount (r .rank))
+      (within-weaken (ofCount (r .rank)) (let g : r .rank ≤ 1 * r .size = omega arith in g) (whole-within binary64 (r .rank) (omega arith)))
+
+  share-over : T (le zero64 share)
+  unfolding share
+  share-over =
+      let c = units (ofCount (r .rank)) (whole-within binary64 (r .rank) (omega arith) .is-finite) (ofInt-fits binary64 (pos (r .rank))) in
+      let n = r .size in
+      div-over n (omega arith) (omega arith) (ofCount (r .rank)) zero64 c zero-units
+      (omega (arith, zero-more, zero-fewer, ap (λ (z : ℕ). z * n) zero-more, ap (λ (z : ℕ). z * n) zero-fewer, zero-mul n, le-units zero64 (ofCount (r .rank)) zero-units c (count-nonneg (r .rank) (omega arith))))
+
+  within-bin : Float
+  within-bin = mul binary64 share width
+
+  within-bin-within : Within 1 within-bin
+  unfolding within-bin
+  within-bin-within = mul-within binary64 1 1 (lit< tt) share width share-within ww
+
+  within-bin-over : T (le zero64 within-bin)
+  unfolding within-bin
+  within-bin-over = product-over share width (share-within .is-finite) (ww .is-finite) (inl (zero-below share share-over, zero-below width pw))
+
+  pub value-within : Within 5096 (valueAt least width r)
+  unfolding valueAt offset share within-bin
+  value-within = add-within binary64 5095 1 (lit< tt) (add binary64 least offset) within-bin (add-within binary64 1000 4095 (lit< tt) least offset wl offset-within) within-bin-within
+
+  pub value-least : T (le least (valueAt least width r))
+  unfolding valueAt offset share within-bin
+  value-least =
+      let ws = add-within binary64 1000 4095 (lit< tt) least offset wl offset-within in
+      let start = add binary64 least offset in
+      let ul = units least (wl .is-finite) fl in
+      let uo = units offset (offset-within .is-finite) (mul-fits binary64 (ofCount (r .bin)) width) in
+      let us = units start (ws .is-finite) (add-fits binary64 least offset) in
+      let ub = units within-bin (within-bin-within .is-finite) (mul-fits binary64 share width) in
+      le-trans' least start (add binary64 start within-bin)
+      (add-over least offset least ul uo ul (omega (arith, zero-more, zero-fewer, le-units zero64 offset zero-units uo offset-over)))
+      (add-over start within-bin start us ub us (omega (arith, zero-more, zero-fewer, le-units zero64 within-bin zero-units ub within-bin-over)))
+
+-- ---- the width of a bin
+
+bins-is : bins64 ≡ ofCount 4096
+unfolding ofBits ofInt round
+bins-is = refl
+
+module _ (s : Moments) (o : Sound s) where
+  abbrev span : Float
+  span = sub binary64 (s .«max_db») (s .«min_db»)
+
+  span-within : Within 2000 span
+  span-within = sub-within binary64 1000 1000 (lit< tt) (s .«max_db») (s .«min_db») (o .greatest-within) (o .least-within)
+
+  width-within : Within 1 (div binary64 span bins64)
+  width-within =
+      subst (λ (z : Float). Within 1 (div binary64 span z)) (sym bins-is)
+      (shared-within 4096 (lit< tt) (lit< tt) 1 (lit< tt) span (within-weaken span (let g : 2000 ≤ 1 * 4096 = omega arith in g) span-within))
+
+  width-over : T (le zero64 (div binary64 span bins64))
+  unfolding ofBits
+  width-over =
+      let u = units span (span-within .is-finite) (sub-fits binary64 (s .«max_db») (s .«min_db»)) in
+      let g = sub-nonneg binary64 (s .«max_db») (s .«min_db») (o .greatest-within .is-finite) (o .least-within .is-finite) (o .ordered) in
+      subst (λ (z : Float). T (le zero64 (div binary64 span z))) (sym bins-is)
+      (div-over 4096 (lit< tt) (lit< tt) span zero64 u zero-units (omega (arith, zero-more, zero-fewer, le-units zero64 span zero-units u g)))
+
+  -- any percentile of the bins
+  module _ (vs : List Float) (c : s .count ≡ length vs) (l : length vs ≤ 16777216) (h : 0 < length vs) (p : Float) where
+    found : BinRank
+    found = seek (target p (s .count)) 0 0 (histogram (map (binOf (s .«min_db») (div binary64 one64 span)) vs))
+
+    first : First (target p (length vs)) (histogram (map (binOf (s .«min_db») (div binary64 one64 span)) vs)) found
+    unfolding found
+    first =
+        subst (λ (n : ℕ). First (target p (length vs)) (histogram (map (binOf (s .«min_db») (div binary64 one64 span)) vs)) (seek (target p n) 0 0 (histogram (map (binOf (s .«min_db») (div binary64 one64 span)) vs)))) (sym c)
+        (target-first p (s .«min_db») (div binary64 one64 span) vs h)
+
+    found-bin : found .bin ≤ 4095
+    found-bin = omega (arith, first .inside, histogram-length (map (binOf (s .«min_db») (div binary64 one64 span)) vs))
+
+    found-size : found .size ≤ 16777216
+    found-size =
+        omega (arith, first .size-is, at-most-sum (histogram (map (binOf (s .«min_db») (div binary64 one64 span)) vs)) (found .bin), bins-sum (s .«min_db») (div binary64 one64 span) vs)
+
+    pub spread-within : Within 5096 (spreadPercentile s span vs p .value)
+    unfolding spreadPercentile percentile found
+    spread-within =
+        value-within (s .«min_db») (div binary64 span bins64) (o .least-fit) (o .least-within) width-within width-over found found-bin (first .rank-below) found-size
+
+    pub spread-least : T (le (s .«min_db») (spreadPercentile s span vs p .value))
+    unfolding spreadPercentile percentile found
+    spread-least =
+        value-least (s .«min_db») (div binary64 span bins64) (o .least-fit) (o .least-within) width-within width-over found found-bin (first .rank-below) found-size
+
+  -- any percentile of a flat scene
+  flat-within : (p : Float) → Within 5096 (flatPercentile s p .value)
+  unfolding flatPercentile
+  flat-within p =
+      either (Within 5096) (lt half64 p) (s .«max_db») (s .«min_db») (within-weaken (s .«max_db») (omega arith) (o .greatest-within)) (within-weaken (s .«min_db») (omega arith) (o .least-within))
+
+  flat-least : (p : Float) → T (le (s .«min_db») (flatPercentile s p .value))
+  unfolding flatPercentile
+  flat-least p =
+      either (λ (z : Float). T (le (s .«min_db») z)) (lt half64 p) (s .«max_db») (s .«min_db») (o .ordered) (le-refl (s .«min_db») (number-of-finite (s .«min_db») (o .least-within .is-finite)))
+
+-- ---- the record
+
+-- what holds of each of the eleven percentiles
+pub record Percentiles (P : Float → Type 0) (r : HistogramStats) : Type 0 where
+  pub median : P (r .«median_db»)
+  pub p01 : P (r .p01)
+  pub p02 : P (r .p02)
+  pub p05 : P (r .p05)
+  pub p10 : P (r .p10)
+  pub p25 : P (r .p25)
+  pub p75 : P (r .p75)
+  pub p90 : P (r .p90)
+  pub p95 : P (r .p95)
+  pub p98 : P (r .p98)
+  pub p99 : P (r .p99)
+
+pub record Bounded (r : HistogramStats) : Type 0 where
+  pub least : Within 1000 (r .«min_db»)
+  pub greatest : Within 1000 (r .«max_db»)
+  pub mean : Within 1000 (r .«mean_db»)
+  pub deviation : Within 2000 (r .«std_db»)
+  pub percentiles : Percentiles (Within 5096) r
+
+gathered-all : (P : Float → Type 0) (s : Moments) (p : Float → Percentile) → ((q : Float) → P (p q .value)) → Percentiles P (gathered s p)
+unfolding gathered
+gathered-all P s p h = record { median = h _; p01 = h _; p02 = h _; p05 = h _; p10 = h _; p25 = h _; p75 = h _; p90 = h _; p95 = h _; p98 = h _; p99 = h _ }
+
+gathered-bounded : (s : Moments) → s .count ≤ 16777216 → Sound s → (p : Float → Percentile) → ((q : Float) → Within 5096 (p q .value)) → Bounded (gathered s p)
+unfolding gathered
+gathered-bounded s l o p h =
+    record { least = o .least-within; greatest = o .greatest-within; mean = o .mean-within; deviation = deviation-within s l o; percentiles = gathered-all (Within 5096) s p h }
+
+gathered-least : (s : Moments) (p : Float → Percentile) → ((q : Float) → T (le (s .«min_db») (p q .value))) → Percentiles (λ x. T (le (gathered s p .«min_db») x)) (gathered s p)
+unfolding gathered
+gathered-least s p h = gathered-all (λ x. T (le (s .«min_db») x)) s p h
+
+none-flat : (vs : List Float) → length vs ≡ 0 → lt (sub binary64 (momentsFrom noMoments vs .«max_db») (momentsFrom noMoments vs .«min_db»)) flat64 ≡ true
+unfolding momentsFrom noMoments ofBits sub lt
+none-flat [] e = refl
+none-flat (v ∷ vs) e = absurd (omega arith)
+
+module _ (vs : List Float) (l : length vs ≤ 16777216) (e : Each Decibel vs) where
+  abbrev s : Moments
+  s = momentsFrom noMoments vs
+
+  few : s .count ≤ 16777216
+  few = omega (arith, none-count vs)
+
+  some : (t : Bool) → lt (sub binary64 (s .«max_db») (s .«min_db»)) flat64 ≡ t → t ≡ false → 0 < length vs
+  some t a b = go (length vs) refl
+    where
+      go : (n : ℕ) → length vs ≡ n → 0 < n
+      go zero z = absurd (let w : _≡_ {A = ℕ} 0 1 = cc (none-flat vs z) in omega arith)
+      go (suc n) z = omega arith
+
+  -- "bounds on every field"
+  pub stats-bounded : Bounded (summaryOf vs)
+  unfolding summaryOf summary
+  stats-bounded = go (lt (sub binary64 (s .«max_db») (s .«min_db»)) flat64) refl
+    where
+      o : Sound s
+      o = sound-moments vs l e
+
+      go : (t : Bool) → lt (sub binary64 (s .«max_db») (s .«min_db»)) flat64 ≡ t →
+          Bounded (cond t (gathered s (flatPercentile s)) (gathered s (spreadPercentile s (sub binary64 (s .«max_db») (s .«min_db»)) vs)))
+      go true a = gathered-bounded s few o (flatPercentile s) (flat-within s o)
+      go false a = gathered-bounded s few o (spreadPercentile s (sub binary64 (s .«max_db») (s .«min_db»)) vs) (spread-within s o vs (none-count vs) l (some false a refl))
+
+  -- "every percentile is at least min"
+  pub stats-least : Percentiles (λ x. T (le (summaryOf vs .«min_db») x)) (summaryOf vs)
+  unfolding summaryOf summary
+  stats-least = go (lt (sub binary64 (s .«max_db») (s .«min_db»)) flat64) refl
+    where
+      o : Sound s
+      o = sound-moments vs l e
+
+      go : (t : Bool) → lt (sub binary64 (s .«max_db») (s .«min_db»)) flat64 ≡ t →
+          Percentiles (λ x. T (le (cond t (gathered s (flatPercentile s)) (gathered s (spreadPercentile s (sub binary64 (s .«max_db») (s .«min_db»)) vs)) .«min_db») x))
+          (cond t (gathered s (flatPercentile s)) (gathered s (spreadPercentile s (sub binary64 (s .«max_db») (s .«min_db»)) vs)))
+      go true a = gathered-least s (flatPercentile s) (flat-least s o)
+      go false a = gathered-least s (spreadPercentile s (sub binary64 (s .«max_db») (s .«min_db»)) vs) (spread-least s o vs (none-count vs) l (some false a refl))
+
+-- ---- of a band that is not refused
+
+both : (a b : Bool) → not (a && b) ≡ false → T a × T b
+both true true e = (tt, tt)
+both true false e = absurd (let z : _≡_ {A = ℕ} 0 1 = cc in omega arith)
+both false b e = absurd (let z : _≡_ {A = ℕ} 0 1 = cc in omega arith)
+
+good-decibel : (v : Float) → T (fits binary64 v) → badPixel (on v) ≡ false → Decibel v
+unfolding badPixel
+good-decibel v f e = let p = both (le minus-thousand v) (le v thousand) e in record { fit = f; low = p .0; high = p .1 }
+
+pub valid-decibels : (m : List ℕ) (d : List Float) → Each (λ v. T (fits binary64 v)) d → badDecibel (pixels m d) ≡ false → Each Decibel (validOf (pixels m d))
+unfolding pixels pixel zipWith validOf badDecibel any
+valid-decibels [] d f e = tt
+valid-decibels (k ∷ m) [] f e = tt
+valid-decibels (zero ∷ m) (v ∷ d) f e = valid-decibels m d (f .1) (or-false (badPixel off) (any badPixel (pixels m d)) e .1)
+valid-decibels (suc k ∷ m) (v ∷ d) f e =
+    let p = or-false (badPixel (on v)) (any badPixel (pixels m d)) e in
+    (good-decibel v (f .0) (p .0), valid-decibels m d (f .1) (p .1))
+
+valid-few : (m : List ℕ) (d : List Float) → length (validOf (pixels m d)) ≤ length d
+unfolding pixels pixel zipWith validOf
+valid-few [] d = zero-le
+valid-few (k ∷ m) [] = zero-le
+valid-few (zero ∷ m) (v ∷ d) = omega (arith, valid-few m d)
+valid-few (suc k ∷ m) (v ∷ d) = omega (arith, valid-few m d)
+
+module _ (m : List ℕ) (d : List Float) (l : length d ≤ 16777216) (f : Each (λ v. T (fits binary64 v)) d) (e : badDecibel (pixels m d) ≡ false) where
+  pub statistics-bounded : Bounded (statisticsOf (pixels m d))
+  unfolding statisticsOf
+  statistics-bounded = stats-bounded (validOf (pixels m d)) (omega (arith, valid-few m d)) (valid-decibels m d f e)
+
+  pub statistics-least : Percentiles (λ x. T (le (statisticsOf (pixels m d) .«min_db») x)) (statisticsOf (pixels m d))
+  unfolding statisticsOf
+  statistics-least = stats-least (validOf (pixels m d)) (omega (arith, valid-few m d)) (valid-decibels m d f e)
