@@ -18,10 +18,10 @@ add-rgb-data-2 : tie.Need-add-rgb-data-2
 add-rgb-data-2 c = search needs
 
 slice-write-rgb-data-3 : tie.Need-slice-write-rgb-data-3
-slice-write-rgb-data-3 c = search needs
+slice-write-rgb-data-3 c = simp length-set (omega arith)
 
 same-length : tie.Need-same-length
-same-length c = search needs
+same-length c = simp length-set
 
 returns : tie.Need-returns
 returns c = search needs
