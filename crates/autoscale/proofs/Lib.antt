@@ -2,4 +2,5 @@ pub mod Painting
 pub mod Answers
 pub mod Unread
 pub mod Windows
-pub mod TempExtremes
+pub mod Limits
+pub mod Greys

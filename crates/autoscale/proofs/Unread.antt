@@ -16,7 +16,7 @@ use Rattle.spec.specs.Strategies.{isTamed}
 use Rattle.spec.specs.Floats.{zero64}
 use Rattle.spec.specs.Window.{inside, narrow, heavy, wide, normal, standard, robust, tamed, chosen, windowOf, pictureWindow}
 use Rattle.histogram.specs.Extremes.{extremesFrom, withMean}
-use Rattle.autoscale.proofs.TempExtremes.{summary-extremes}
+use Rattle.histogram.proofs.Extremes.{summary-extremes}
 use Rattle.autoscale.specs.Bands.{readsMean, statsFor}
 
 pub window-unread : (strategy : AutoscaleStrategy) → readsMean strategy ≡ false → (mean deviation : Float) (s : HistogramStats) → windowOf strategy (withMean mean deviation s) ≡ windowOf strategy s

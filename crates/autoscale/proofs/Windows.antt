@@ -130,6 +130,7 @@ module _ (strategy : AutoscaleStrategy) (rows cols : ℕ) (m : List ℕ) (d : Li
     where
       tests : firstOf 1 (tooWide rows cols ∷ notNamed rows cols m d ∷ badMark m ∷ badDecibel px ∷ []) ≡ firstOf 4 (badDecibel px ∷ [])
       tests = first-later 0 shape (badDecibel px ∷ []) good
+
       go : (b : Bool) → badDecibel px ≡ b → readWindow (cond b (Refused 4) (windowOf strategy (statisticsOf px))) ≡ windowCall strategy rows cols m d
       go true f = sym (is-call 4 (tests ∙ first-here 4 (badDecibel px) [] f) ∙ four)
         where

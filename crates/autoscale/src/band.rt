@@ -1,6 +1,8 @@
 // The window of a band from its dB and marks. Mean and deviation are worked out only for the strategy that reads them.
 use histogram::moments::FirstPass;
-use types::{AutoscaleStrategy, StatisticsAnswer, WindowAnswer};
+use types::AutoscaleStrategy;
+use types::StatisticsAnswer;
+use types::WindowAnswer;
 ghost use mathlib.Core.Path.{_≡_};
 ghost use mathlib.Core.Bool.{cond};
 ghost use Prim.Native.Nat.{_<_, _^_};
@@ -12,7 +14,11 @@ ghost use Rattle.autoscale.specs.Bands.{readsMean, bandStats, bandWindow
 fn reads_mean(strategy: AutoscaleStrategy) -> bool
     ensures { λ r. ⌜ r ≡ readsMean strategy ⌝ }
 {
-    if let AutoscaleStrategy::Adaptive = strategy { true } else { false }
+    if let AutoscaleStrategy::Adaptive = strategy {
+        true
+    } else {
+        false
+    }
 }
 
 // Pass one, as far as the strategy reads it.
@@ -49,7 +55,12 @@ pub fn band_window(strategy: AutoscaleStrategy, db: &[f64], valid_mask: &[u8]) -
 }
 
 // The window that a picture paints such a band with.
-pub fn band_picture_window(strategy: AutoscaleStrategy, is_copol: bool, db: &[f64], valid_mask: &[u8]) -> WindowAnswer
+pub fn band_picture_window(
+    strategy: AutoscaleStrategy,
+    is_copol: bool,
+    db: &[f64],
+    valid_mask: &[u8],
+) -> WindowAnswer
     requires { ⌜ (length (now «valid_mask») ≡ length (now db)) × (length (now db) < 2 ^ 32) ⌝ }
     ensures { λ r. ⌜ r ≡ bandPictureWindow strategy «is_copol» (pixels (now («valid_mask» .entry)) (now (db .entry))) ⌝ }
 {

@@ -1,9 +1,17 @@
 // What each strategy decides from the statistics: low, high and gamma, each float step in the source's order.
-use types::{AutoscaleStrategy, Clip, HistogramStats};
+use types::AutoscaleStrategy;
+use types::Clip;
+use types::HistogramStats;
 ghost use mathlib.Core.Path.{_≡_};
 ghost use mathlib.Core.Bool.{cond};
 ghost use Rattle.spec.specs.Strategies.{isTamed};
 ghost use Rattle.spec.specs.Window as Window;
+
+fn between(low: f64, high: f64, gamma: f64) -> Clip
+    ensures { λ r. ⌜ r ≡ Window.between low high gamma ⌝ }
+{
+    Clip { low, high, gamma }
+}
 
 // Low at least the least value, high at most the greatest.
 fn valid_range(stats: HistogramStats, low: f64, high: f64, gamma: f64) -> Clip
@@ -21,7 +29,12 @@ fn low_contrast_clip(stats: HistogramStats, dynamic_range: f64) -> Clip
     ensures { λ r. ⌜ r ≡ Window.narrow stats «dynamic_range» ⌝ }
 {
     let range = numeric::max_f64(20.0, dynamic_range * 0.8);
-    valid_range(stats, stats.median_db - range / 2.0, stats.median_db + range / 2.0, 1.1)
+    valid_range(
+        stats,
+        stats.median_db - range / 2.0,
+        stats.median_db + range / 2.0,
+        1.1,
+    )
 }
 
 // Standard, heavy-tailed: by the interquartile range.
@@ -98,30 +111,14 @@ pub fn adaptive_clip(stats: HistogramStats) -> Clip
     let skew = skew_factor(stats);
     if numeric::abs_f64(skew) > 0.5 {
         if skew > 0.0 {
-            return Clip {
-                low: stats.p02,
-                high: stats.p98,
-                gamma: 0.9,
-            };
+            return between(stats.p02, stats.p98, 0.9);
         }
-        return Clip {
-            low: stats.p05,
-            high: stats.p95,
-            gamma: 1.1,
-        };
+        return between(stats.p05, stats.p95, 1.1);
     }
     if tail_heaviness(stats) > 2.0 {
-        return Clip {
-            low: stats.p10,
-            high: stats.p90,
-            gamma: 0.8,
-        };
+        return between(stats.p10, stats.p90, 0.8);
     }
-    Clip {
-        low: stats.p05,
-        high: stats.p95,
-        gamma: 1.0,
-    }
+    between(stats.p05, stats.p95, 1.0)
 }
 
 // What a strategy decides for the window and grey calls.
@@ -132,26 +129,10 @@ pub fn choose_clip(strategy: AutoscaleStrategy, stats: HistogramStats) -> Clip
         AutoscaleStrategy::Standard => standard_clip(stats),
         AutoscaleStrategy::Robust => robust_clip(stats),
         AutoscaleStrategy::Adaptive => adaptive_clip(stats),
-        AutoscaleStrategy::Equalized => Clip {
-            low: stats.p01,
-            high: stats.p99,
-            gamma: 1.0,
-        },
-        AutoscaleStrategy::Clahe => Clip {
-            low: stats.p01,
-            high: stats.p99,
-            gamma: 1.0,
-        },
-        AutoscaleStrategy::Tamed => Clip {
-            low: stats.p25,
-            high: stats.p99,
-            gamma: 1.0,
-        },
-        AutoscaleStrategy::Default => Clip {
-            low: stats.p05,
-            high: stats.p95,
-            gamma: 1.0,
-        },
+        AutoscaleStrategy::Equalized => between(stats.p01, stats.p99, 1.0),
+        AutoscaleStrategy::Clahe => between(stats.p01, stats.p99, 1.0),
+        AutoscaleStrategy::Tamed => between(stats.p25, stats.p99, 1.0),
+        AutoscaleStrategy::Default => between(stats.p05, stats.p95, 1.0),
     }
 }
 
@@ -160,17 +141,9 @@ pub fn tamed_clip(is_copol: bool, stats: HistogramStats) -> Clip
     ensures { λ r. ⌜ r ≡ Window.tamed «is_copol» stats ⌝ }
 {
     if is_copol {
-        return Clip {
-            low: numeric::min_f64(stats.p02, stats.p05),
-            high: stats.p99,
-            gamma: 1.0,
-        };
+        return between(numeric::min_f64(stats.p02, stats.p05), stats.p99, 1.0);
     }
-    Clip {
-        low: stats.p05,
-        high: stats.p99,
-        gamma: 1.0,
-    }
+    between(stats.p05, stats.p99, 1.0)
 }
 
 // What a strategy decides for a picture.

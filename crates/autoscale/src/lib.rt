@@ -3,10 +3,17 @@ pub mod band;
 pub mod clip;
 pub mod paint;
 
-use types::{AutoscaleStrategy, Clip, HistogramStats, Reply, WindowAnswer};
+use types::AutoscaleStrategy;
+use types::Clip;
+use types::HistogramStats;
+use types::Reply;
+use types::WindowAnswer;
 ghost use mathlib.Core.Path.{_≡_};
+ghost use mathlib.Core.Bool.{cond};
+ghost use lib.Dec.{eqb};
 ghost use lib.Ieee.{eq};
 ghost use lib.ListN.{length};
+ghost use Rattle.types.specs.declared.WindowAnswer.the-variants.{Blank};
 ghost use Rattle.spec.specs.Answer.{number, replyNumber, after};
 ghost use Rattle.spec.specs.Floats.{one64};
 ghost use Rattle.spec.specs.Pixels.{pixels};
@@ -15,10 +22,13 @@ ghost use Rattle.spec.specs.Value.{full8, full16};
 ghost use Rattle.spec.specs.Window as Window;
 ghost use Rattle.autoscale.specs.Painted.{plainValues, leaving, painting};
 
-// A clip with its range, as an answer.
-fn open_window(clip: Clip) -> WindowAnswer
-    ensures { λ r. ⌜ r ≡ Window.opened clip ⌝ }
+// A clip with its range as an answer, blank without a valid pixel.
+fn open_window(valid_count: usize, clip: Clip) -> WindowAnswer
+    ensures { λ r. ⌜ r ≡ cond (eqb «valid_count» 0) Blank (Window.opened clip) ⌝ }
 {
+    if valid_count == 0 {
+        return WindowAnswer::Blank;
+    }
     let low = clip.low;
     let high = clip.high;
     WindowAnswer::Window {
@@ -29,28 +39,35 @@ fn open_window(clip: Clip) -> WindowAnswer
     }
 }
 
-// The window of a band with these statistics: blank without a valid pixel.
+// The window of a band with these statistics.
 pub fn window_of(strategy: AutoscaleStrategy, stats: HistogramStats) -> WindowAnswer
     ensures { λ r. ⌜ r ≡ Window.windowOf strategy stats ⌝ }
 {
-    if stats.valid_count == 0 {
-        return WindowAnswer::Blank;
-    }
-    open_window(clip::choose_clip(strategy, stats))
+    open_window(stats.valid_count, clip::choose_clip(strategy, stats))
 }
 
-// The window that a picture paints a band with.
-pub fn picture_window(strategy: AutoscaleStrategy, is_copol: bool, stats: HistogramStats) -> WindowAnswer
+// The window that a picture paints such a band with.
+pub fn picture_window(
+    strategy: AutoscaleStrategy,
+    is_copol: bool,
+    stats: HistogramStats,
+) -> WindowAnswer
     ensures { λ r. ⌜ r ≡ Window.pictureWindow strategy «is_copol» stats ⌝ }
 {
-    if stats.valid_count == 0 {
-        return WindowAnswer::Blank;
-    }
-    open_window(clip::picture_clip(strategy, is_copol, stats))
+    open_window(
+        stats.valid_count,
+        clip::picture_clip(strategy, is_copol, stats),
+    )
 }
 
 // The window call: refusals 1 to 4, then the window.
-pub fn autoscale_window(strategy: AutoscaleStrategy, rows: usize, cols: usize, db: &[f64], valid_mask: &[u8]) -> WindowAnswer
+pub fn autoscale_window(
+    strategy: AutoscaleStrategy,
+    rows: usize,
+    cols: usize,
+    db: &[f64],
+    valid_mask: &[u8],
+) -> WindowAnswer
     ensures { λ r. ⌜ Window.readWindow r ≡ Window.windowCall strategy rows cols (now («valid_mask» .entry)) (now (db .entry)) ⌝ }
 {
     let refusal = raster::shape_refusal(rows, cols, db, valid_mask);
@@ -107,7 +124,12 @@ fn leave_u16(window: WindowAnswer, out: &mut [u16]) -> Reply
 }
 
 // A band at 8 bits from its window, outside Clahe: painted, then stretched between the least and the greatest of all bytes.
-pub fn autoscale_db_image_u8(db: &[f64], valid_mask: &[u8], window: WindowAnswer, out: &mut [u8]) -> Reply
+pub fn autoscale_db_image_u8(
+    db: &[f64],
+    valid_mask: &[u8],
+    window: WindowAnswer,
+    out: &mut [u8],
+) -> Reply
     requires { ⌜ length (now db) ≡ length (now out) ⌝ ∗ ⌜ length (now «valid_mask») ≡ length (now out) ⌝ }
     ensures { λ r. ⌜ replyNumber r ≡ number (painting window (Stretch.stretch (plainValues full8 (pixels (now («valid_mask» .entry)) (now (db .entry))) window))) ⌝ }
     ensures { λ _. ⌜ now (out .exit) ≡ after (λ l. l) (painting window (Stretch.stretch (plainValues full8 (pixels (now («valid_mask» .entry)) (now (db .entry))) window))) (now (out .entry)) ⌝ }
@@ -132,7 +154,12 @@ pub fn autoscale_db_image_u8(db: &[f64], valid_mask: &[u8], window: WindowAnswer
 }
 
 // A band at 8 bits from its window, not stretched, as the Tamed picture path has it.
-pub fn autoscale_db_image_tamed_synrgb_u8(db: &[f64], valid_mask: &[u8], window: WindowAnswer, out: &mut [u8]) -> Reply
+pub fn autoscale_db_image_tamed_synrgb_u8(
+    db: &[f64],
+    valid_mask: &[u8],
+    window: WindowAnswer,
+    out: &mut [u8],
+) -> Reply
     requires { ⌜ length (now db) ≡ length (now out) ⌝ ∗ ⌜ length (now «valid_mask») ≡ length (now out) ⌝ }
     ensures { λ r. ⌜ replyNumber r ≡ number (painting window (plainValues full8 (pixels (now («valid_mask» .entry)) (now (db .entry))) window)) ⌝ }
     ensures { λ _. ⌜ now (out .exit) ≡ after (λ l. l) (painting window (plainValues full8 (pixels (now («valid_mask» .entry)) (now (db .entry))) window)) (now (out .entry)) ⌝ }
@@ -154,7 +181,12 @@ pub fn autoscale_db_image_tamed_synrgb_u8(db: &[f64], valid_mask: &[u8], window:
 }
 
 // A band at 16 bits from its window, outside Clahe.
-pub fn autoscale_db_image_u16(db: &[f64], valid_mask: &[u8], window: WindowAnswer, out: &mut [u16]) -> Reply
+pub fn autoscale_db_image_u16(
+    db: &[f64],
+    valid_mask: &[u8],
+    window: WindowAnswer,
+    out: &mut [u16],
+) -> Reply
     requires { ⌜ length (now db) ≡ length (now out) ⌝ ∗ ⌜ length (now «valid_mask») ≡ length (now out) ⌝ }
     ensures { λ r. ⌜ replyNumber r ≡ number (painting window (plainValues full16 (pixels (now («valid_mask» .entry)) (now (db .entry))) window)) ⌝ }
     ensures { λ _. ⌜ now (out .exit) ≡ after (λ l. l) (painting window (plainValues full16 (pixels (now («valid_mask» .entry)) (now (db .entry))) window)) (now (out .entry)) ⌝ }

@@ -33,10 +33,10 @@ pub fn value_u16(v: f64, low: f64, high: f64, range: f64) -> u16
 }
 
 // A value, or 0 where the pixel is invalid. The value is worked out either way, so that no branch stands in the loops below.
-fn masked_u8(mark: u8, value: u8) -> u8
-    ensures { λ r. ⌜ r ≡ cond (eqb mark 0) 0 value ⌝ }
+fn masked_u8(mark: u8, byte: u8) -> u8
+    ensures { λ r. ⌜ r ≡ cond (eqb mark 0) 0 byte ⌝ }
 {
-    if mark == 0 { 0 } else { value }
+    if mark == 0 { 0 } else { byte }
 }
 
 fn masked_u16(mark: u8, value: u16) -> u16
@@ -46,7 +46,14 @@ fn masked_u16(mark: u8, value: u16) -> u16
 }
 
 // A band at 8 bits, with the least and the greatest of the bytes.
-pub fn paint_u8(db: &[f64], valid_mask: &[u8], low: f64, high: f64, range: f64, out: &mut [u8]) -> Ends
+pub fn paint_u8(
+    db: &[f64],
+    valid_mask: &[u8],
+    low: f64,
+    high: f64,
+    range: f64,
+    out: &mut [u8],
+) -> Ends
     requires { ⌜ length (now db) ≡ length (now out) ⌝ ∗ ⌜ length (now «valid_mask») ≡ length (now out) ⌝ }
     ensures { λ r. ⌜ now (out .exit) ≡ map (paint full8 low high range) (pixels (now («valid_mask» .entry)) (now (db .entry))) ⌝ }
     ensures { λ r. ⌜ (r .lo ≡ lowest 65535 (now (out .exit))) × (r .hi ≡ highest 0 (now (out .exit))) ⌝ }

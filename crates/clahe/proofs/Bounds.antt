@@ -1,19 +1,18 @@
 -- The excess lies between 0 and the sum of the bins, so shares fit. Assumes nothing.
 use mathlib.Core.Path.{_≡_, refl, sym, ap, subst, _∙_}
-use mathlib.Core.Bool.{Bool, true, false, not, cond}
+use mathlib.Core.Bool.{Bool, true, false, cond}
 use mathlib.Core.List.{List, [], _∷_, map}
-use Prim.Native.Nat.{ℕ, zero, suc, _+_, _-_, _*_, _^_, _≤_, _<_, zero-le}
-use native.Mathlib.Nat.{sub-zero, zero-add, add-zero, add-assoc, mul-one, mul-pos, mul-left-comm, le-of-suc-le-suc, not-suc-le-zero}
+use Prim.Native.Nat.{ℕ, zero, suc, _+_, _*_, _^_, _≤_, _<_, zero-le}
+use native.Mathlib.Nat.{sub-zero, zero-add, add-zero, add-assoc, mul-left-comm}
 use native.Mathlib.Omega.{arith}
 use lib.Dec.{T, lit<, le→leb}
-use lib.IntN.{pos}
-use lib.ListN.{length, getD}
-use lib.Ieee.{Float, fin, binary64, add, sub, mul, div, lt, le, round, ofInt, ofBits, toUnsigned, inFloat}
+use lib.ListN.{getD}
+use lib.Ieee.{Float, binary64, add, sub, mul, div, lt, le, ofInt, ofBits, toUnsigned, inFloat}
 use lib.Ieee.Back.{unsigned-back}
-use lib.Ieee.Positive.{den, den-pos, num}
+use lib.Ieee.Positive.{den, den-pos}
 use lib.Ieee.Scale.{finite}
 use Rattle.numeric.proofs.Order.{plus, less, number-of-finite, le-trans as le-trans', le-of-lt, finite-between, le-refl as le-refl'}
-use Rattle.numeric.proofs.Round.{Rounds, round-le, rounds-le}
+use Rattle.numeric.proofs.Round.{round-le, rounds-le}
 use Rattle.numeric.proofs.Ops.{sub-nonneg, add-le-both, sub-le-both, div-le, div-rounds}
 use Rattle.numeric.proofs.Picks.{toUnsigned-le, above-larger}
 use Rattle.numeric.proofs.Values.{value-finite, value-plus, count-value, count-sub}
@@ -21,7 +20,6 @@ use Rattle.numeric.proofs.Exact.{count-add}
 use Rattle.spec.specs.Floats.{zero64, one64, two64, ofCount, larger}
 use Rattle.spec.specs.Lists.{sumOf}
 use Rattle.spec.specs.Clahe.{levels64, threshold, clipped, excess}
-use Rattle.clahe.proofs.Cells.{map-at}
 
 -- ---- counts as floats
 

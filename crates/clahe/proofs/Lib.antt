@@ -13,3 +13,4 @@ pub mod Parts
 pub mod Positioned
 pub mod Shades
 pub mod Painted
+pub mod Listed

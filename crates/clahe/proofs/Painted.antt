@@ -1,19 +1,19 @@
 -- A picture row by row, and that its values from the work list are those of the tables. Assumes nothing.
 use mathlib.Core.Path.{_≡_, refl, sym, ap, subst, _∙_}
-use mathlib.Core.List.{List, [], _∷_, _++_, map, zipWith}
-use Prim.Native.Nat.{ℕ, zero, suc, _+_, _-_, _*_, _/_, _%_, _≤_, _<_, min}
+use mathlib.Core.List.{List, [], _∷_, _++_, zipWith}
+use Prim.Native.Nat.{ℕ, _+_, _-_, _*_, _/_, _%_, _≤_, _<_}
 use native.Mathlib.Decide.{decLt}
-use native.Mathlib.Nat.{add-zero, zero-add, mul-le-mul-right, mul-add-div-right, mul-add-mod-self-right, div-eq-of-lt, mod-eq-of-lt}
+use native.Mathlib.Nat.{add-zero, mul-le-mul-right, mul-add-div-right, mul-add-mod-self-right, div-eq-of-lt, mod-eq-of-lt}
 use native.Mathlib.Omega.{arith}
 use lib.Ieee.{Float, nan, binary64, mul, toUnsigned}
 use lib.ListN.{length, getD, take, drop, length-take, length-drop, length-map}
 use lib.Seq.{getD-take, getD-drop, ext-getD}
 use Rattle.types.specs.declared.TilePosition.{TilePosition}
 use Rattle.spec.specs.Floats.{zero64, one64, held}
-use Rattle.spec.specs.Lists.{placesFrom, places}
+use Rattle.spec.specs.Lists.{places}
 use Rattle.spec.specs.Pixels.{Pixel, off, on, pixel, pixels}
 use Rattle.spec.specs.Grey.{normalPixel}
-use Rattle.spec.specs.Clahe.{tileSide, positionOf, levelOf, blend, sumAt, sample, equalised, tileTables, claheValues}
+use Rattle.spec.specs.Clahe.{tileSide, positionOf, levelOf, sumAt, sample, equalised, tileTables, claheValues}
 use Rattle.clahe.specs.Work.{Holds, Among, sumIn, sampled}
 use Rattle.clahe.specs.Band.{band, Raster}
 use Rattle.clahe.specs.Paint.{shade, shadeAt, rowShades, shades}

@@ -1,7 +1,7 @@
 -- Parts of lists that are made element by element. Assumes nothing.
-use mathlib.Core.Path.{_≡_, refl, sym, ap, subst, _∙_}
+use mathlib.Core.Path.{_≡_, refl, sym, ap, _∙_}
 use mathlib.Core.List.{List, [], _∷_, _++_, map, zipWith}
-use Prim.Native.Nat.{ℕ, zero, suc, _+_, _-_, _*_, _≤_, _<_, zero-le, suc-le-suc}
+use Prim.Native.Nat.{ℕ, zero, suc, _+_, _-_, _*_, _≤_, _<_}
 use native.Mathlib.Nat.{suc-inj, le-of-suc-le-suc, not-suc-le-zero}
 use native.Mathlib.Omega.{arith}
 use borrow.Author.Count.{below-more}
@@ -10,7 +10,7 @@ use lib.ListN.{length, getD, take, drop, length-map, List·getD-append}
 use lib.Seq.{length-take-le, getD-take, getD-append-add}
 use Rattle.spec.specs.Lists.{places}
 use Rattle.clahe.proofs.Cells.{places-length, places-at}
-use Rattle.spec.specs.Pixels.{Pixel, pixel, pixels}
+use Rattle.spec.specs.Pixels.{pixel, pixels}
 use Rattle.spec.specs.Grey.{normalPixel}
 use Rattle.clahe.specs.Band.{band}
 

@@ -12,10 +12,10 @@ module _ (side i : ℕ) where
   abbrev pub place : Float
   place = sub binary64 (div binary64 (ofCount i) (ofCount side)) half64
 
-  pub position-of : (k m n : ℕ) (w : Float) → k ≡ toUnsigned 64 place → m ≡ min k 7 → n ≡ min (k + 1) 7 → w ≡ ofCount k
-      → _≡_ {A = TilePosition} (record { position = place; first = m; second = n; weight = sub binary64 place w }) (positionOf side i)
+  pub position-of : (k m n : ℕ) (w x : Float) → k ≡ toUnsigned 64 place → m ≡ min k 7 → n ≡ min (k + 1) 7 → w ≡ ofCount k → x ≡ sub binary64 place w
+      → _≡_ {A = TilePosition} (record { position = place; first = m; second = n; weight = x }) (positionOf side i)
   unfolding positionOf
-  position-of k m n w a b c d = cc
+  position-of k m n w x a b c d e = cc
 
 pub sampled-from : (work : List Float) (y x : TilePosition) (b : ℕ) (top bottom r : Float)
     → top ≡ blend (x .weight) (sumIn work (y .first) (x .first) b) (sumIn work (y .first) (x .second) b)

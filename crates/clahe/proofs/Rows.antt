@@ -1,15 +1,15 @@
 -- The levels of a row or of a part of a band, one pixel after another, and the counts that they are added to. Assumes nothing.
-use mathlib.Core.Path.{_≡_, refl, sym, ap, subst, _∙_}
-use mathlib.Core.List.{List, [], _∷_, _++_, map, zipWith, map-append}
-use Prim.Native.Nat.{ℕ, zero, suc, _+_, _-_, _*_, _≤_, _<_, zero-le}
+use mathlib.Core.Path.{_≡_, refl}
+use mathlib.Core.List.{List, [], _∷_, _++_, zipWith}
+use Prim.Native.Nat.{ℕ, zero, suc, _+_, _≤_, _<_}
 use native.Mathlib.Nat.{le-of-suc-le-suc, not-suc-le-zero}
 use native.Mathlib.Numerals.{add-one}
 use native.Mathlib.Omega.{arith}
 use lib.Ieee.{Float}
-use lib.ListN.{length, getD, set, take, drop}
-use lib.Seq.{drop-cons, drop-length}
+use lib.ListN.{length, getD, set, drop}
+use lib.Seq.{drop-cons}
 use Rattle.spec.specs.Lists.{added, stored}
-use Rattle.spec.specs.Pixels.{Pixel, off, on, pixel, pixels, validOf}
+use Rattle.spec.specs.Pixels.{off, on, pixel, pixels, validOf}
 use Rattle.spec.specs.Grey.{normalPixel}
 use Rattle.spec.specs.Value.{normalised}
 use Rattle.spec.specs.Clahe.{levelOf}

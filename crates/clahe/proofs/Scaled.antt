@@ -1,19 +1,18 @@
 -- A value held to 0..1 and scaled lies between 0 and the scale, and its level is below 256. Assumes nothing.
-use mathlib.Core.Path.{_≡_, refl, sym, ap, subst, _∙_}
-use Prim.Native.Nat.{ℕ, _+_, _*_, _/_, _^_, _≤_, _<_, min}
-use native.Mathlib.Nat.{div-lt-iff-lt-mul, mul-pos, mul-one}
+use mathlib.Core.Path.{_≡_}
+use Prim.Native.Nat.{ℕ, _+_, _*_, _/_, _≤_, _<_}
+use native.Mathlib.Nat.{div-lt-iff-lt-mul}
 use native.Mathlib.Omega.{arith}
-use lib.Dec.{T, lit<}
-use lib.Ieee.{Float, binary64, mul, le, lt, eq, ofBits, ofFields, toUnsigned}
+use lib.Dec.{T}
+use lib.Ieee.{Float, binary64, mul, le, ofBits}
 use lib.Ieee.Positive.{positive, den, den-pos}
-use lib.Ieee.Scale.{finite}
-use Rattle.numeric.proofs.Order.{plus, less, le-trans as le-trans', finite-between, le→cross}
+use Rattle.numeric.proofs.Order.{plus, le-trans as le-trans', finite-between, le→cross}
 use Rattle.numeric.proofs.Ops.{mul-le}
-use Rattle.numeric.proofs.Picks.{clamped-lo, clamped-hi, toUnsigned-le}
+use Rattle.numeric.proofs.Picks.{clamped-lo, clamped-hi}
 use Rattle.numeric.proofs.Values.{rounded-of, nothing-less}
 use Rattle.spec.specs.Floats.{zero64, one64, held, rounded}
 use Rattle.spec.specs.Value.{full8, full16}
-use Rattle.spec.specs.Clahe.{levelOf, last64}
+use Rattle.spec.specs.Clahe.{levelOf}
 
 unit : T (le zero64 one64)
 unfolding le ofBits

@@ -1,13 +1,12 @@
 -- The value of a pixel: that it fits its depth, and what it is where the pixel is valid or not. Assumes nothing.
-use mathlib.Core.Path.{_≡_, refl, sym, ap, subst, _∙_}
+use mathlib.Core.Path.{_≡_, sym, ap, _∙_}
 use mathlib.Core.List.{List}
 use Prim.Native.Nat.{ℕ, _≤_}
-use native.Mathlib.Omega.{arith}
 use lib.Ieee.{Float, binary64, mul, ofBits, toUnsigned}
 use Rattle.numeric.proofs.Picks.{toUnsigned-le}
 use Rattle.types.specs.declared.TilePosition.{TilePosition}
 use Rattle.spec.specs.Floats.{zero64, one64, held}
-use Rattle.spec.specs.Pixels.{Pixel, off, on, pixel}
+use Rattle.spec.specs.Pixels.{Pixel, on, pixel}
 use Rattle.spec.specs.Grey.{normalPixel}
 use Rattle.spec.specs.Value.{full8, full16, normalised}
 use Rattle.spec.specs.Clahe.{levelOf}

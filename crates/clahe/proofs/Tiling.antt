@@ -1,17 +1,16 @@
 -- Where a tile lies, and its levels row by row. Assumes nothing.
-use mathlib.Core.Path.{_≡_, refl, sym, ap, subst, _∙_}
+use mathlib.Core.Path.{_≡_, refl, ap, _∙_}
 use mathlib.Core.List.{List, [], _∷_, _++_, map, flatMap, map-append, append-nil}
-use Prim.Native.Nat.{ℕ, zero, suc, _+_, _-_, _*_, _≤_, _<_, min, zero-le, suc-le-suc}
-use native.Mathlib.Nat.{add-zero, sub-zero, suc-mul, mul-le-mul-right, le-of-suc-le-suc, not-suc-le-zero, suc-inj}
+use Prim.Native.Nat.{ℕ, zero, suc, _+_, _-_, _*_, _≤_, _<_, zero-le, suc-le-suc}
+use native.Mathlib.Nat.{add-zero, sub-zero, suc-mul, mul-le-mul-right}
 use native.Mathlib.Omega.{arith}
 use lib.Ieee.{Float}
 use lib.ListN.{length, getD, take, drop, replicate, length-take, length-append}
 use Rattle.lists.proofs.Counts.{Below, counts-from-cells, stored-more, counts-sum}
 use Rattle.spec.specs.Lists.{placesFrom, counts, countOf, stored, sumOf}
-use Rattle.spec.specs.Pixels.{Pixel, off, on, pixel, pixels, validOf}
-use Rattle.spec.specs.Grey.{normalPixel}
+use Rattle.spec.specs.Pixels.{Pixel, off, on, validOf}
 use Rattle.spec.specs.Clahe.{tileSide, tileStart, tileSize, tilePixels, tileCounts, levelOf}
-use Rattle.clahe.specs.Band.{band, levels}
+use Rattle.clahe.specs.Band.{levels}
 use Rattle.clahe.proofs.Whole.{next-times, times-most}
 use Rattle.clahe.proofs.Rows.{Most, stored-append, stored-most}
 

@@ -1,7 +1,7 @@
 -- Whole numbers: those that are floats exactly, products that fit, and what a cast to 32 bits gives. Assumes nothing.
-use mathlib.Core.Path.{_≡_, refl, sym, ap, _∙_}
-use mathlib.Core.Bool.{Bool, true, false, cond}
-use Prim.Native.Nat.{ℕ, _+_, _*_, _-_, _/_, _^_, _≤_, _<_, min}
+use mathlib.Core.Path.{_≡_, refl, ap, _∙_}
+use mathlib.Core.Bool.{true, false}
+use Prim.Native.Nat.{ℕ, _+_, _*_, _-_, _/_, _^_, _≤_, min}
 use native.Mathlib.Nat.{mul-le-mul, add-mul, one-mul}
 use native.Mathlib.Omega.{arith}
 use lib.Dec.{T, le→leb}

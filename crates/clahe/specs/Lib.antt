@@ -1,3 +1,4 @@
 pub mod Work
 pub mod Band
 pub mod Paint
+pub mod Sides

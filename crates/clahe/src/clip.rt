@@ -5,8 +5,8 @@ ghost use mathlib.Core.List.{map};
 ghost use Prim.Native.Nat.{ℕ, _≤_, _<_, _+_, _^_};
 ghost use lib.Dec.{T, ltb};
 ghost use lib.ListN.{length, getD};
-ghost use lib.Ieee.{binary64, add, sub, lt, le, toUnsigned};
-ghost use Rattle.spec.specs.Floats.{zero64, ofCount};
+ghost use lib.Ieee.{binary64, add, sub, div, lt, le, toUnsigned};
+ghost use Rattle.spec.specs.Floats.{zero64, ofCount, rounded};
 ghost use Rattle.spec.specs.Lists.{sumOf};
 ghost use Rattle.spec.specs.Clahe as Clahe;
 
@@ -26,12 +26,19 @@ pub fn threshold(area: usize) -> f64
     numeric::max_f64(2.0 * (area as f64 / 256.0), 1.0)
 }
 
+// What a bin has above the limit, the fraction kept.
+pub fn above(size: f64, limit: f64) -> f64
+    ensures { λ r. ⌜ r ≡ sub binary64 size limit ⌝ }
+{
+    size - limit
+}
+
 // The sum with what a bin has above the limit.
 pub fn with_excess(sum: f64, h: u32, limit: f64) -> f64
     ensures { λ r. ⌜ r ≡ cond (lt limit (ofCount h)) (add binary64 sum (sub binary64 (ofCount h) limit)) sum ⌝ }
 {
     let size = h as f64;
-    if size > limit { sum + (size - limit) } else { sum }
+    if size > limit { sum + above(size, limit) } else { sum }
 }
 
 // What all bins have above the limit.
@@ -68,6 +75,20 @@ pub fn clip_bins(hist: &mut [u32], limit: f64)
     }
 }
 
+// What each bin gets of the excess.
+pub fn each_of(over: f64) -> u64
+    ensures { λ r. ⌜ r ≡ toUnsigned 64 (div binary64 over Clahe.levels64) ⌝ }
+{
+    numeric::f64_as_u64(over / 256.0)
+}
+
+// What is left of it, rounded.
+pub fn rest_of(over: f64, given: f64) -> u64
+    ensures { λ r. ⌜ r ≡ rounded (sub binary64 over given) ⌝ }
+{
+    numeric::round_f64_as_u64(over - given)
+}
+
 // A bin's share: `each`, and one more where the bin is among the first `rest`.
 pub fn with_share(h: u32, b: u64, each: u32, rest: u64) -> u32
     requires { ⌜ h + each + 1 < 2 ^ 32 ⌝ }
@@ -95,8 +116,8 @@ pub fn clip(hist: &mut [u32], limit: f64)
     ensures { λ _. ⌜ now (hist .exit) ≡ Clahe.clipAt limit (now (hist .entry)) ⌝ }
 {
     let over = excess(hist, limit);
+    let each = each_of(over);
+    let rest = rest_of(over, std::num::nearest_u64_to_f64(each) * 256.0);
     clip_bins(hist, limit);
-    let each = numeric::f64_as_u64(over / 256.0);
-    let rest = numeric::round_f64_as_u64(over - each as f64 * 256.0);
     share(hist, each as u32, rest);
 }

@@ -2,11 +2,19 @@
 ghost use mathlib.Core.Path.{_≡_};
 ghost use Prim.Native.Nat.{_≤_, _<_};
 ghost use lib.ListN.{length};
+ghost use lib.Ieee.{binary64, sub};
 ghost use Rattle.clahe.specs.Work.{Among, sampled};
 ghost use Rattle.spec.specs.Clahe as Clahe;
 use types::TilePosition;
 
-// Where row or column i lies among tiles of that side: the weight is below 0 before the first tile's middle.
+// How far a position lies past the middle of its first tile: below 0 at the top and left edges.
+pub fn past(position: f64, middle: f64) -> f64
+    ensures { λ r. ⌜ r ≡ sub binary64 position middle ⌝ }
+{
+    position - middle
+}
+
+// Where row or column i lies among tiles of that side.
 pub fn tile_position(side: usize, i: usize) -> TilePosition
     requires { ⌜ (side ≤ 4096) × (i ≤ 4096) ⌝ }
     ensures { λ r. ⌜ r ≡ Clahe.positionOf side i ⌝ }
@@ -19,7 +27,7 @@ pub fn tile_position(side: usize, i: usize) -> TilePosition
         position,
         first,
         second,
-        weight: position - std::num::nearest_u64_to_f64(k),
+        weight: past(position, std::num::nearest_u64_to_f64(k)),
     }
 }
 

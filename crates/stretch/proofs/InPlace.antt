@@ -22,9 +22,10 @@ module _ {A : Type 0} (g : A → A) (d : A) (old : List A) where
       → (take (i + 1) (set new i a) ≡ map g (take (i + 1) old)) × (drop (i + 1) (set new i a) ≡ drop (i + 1) old)
   placed-step new i a h e v t u =
       let k : i < length old = omega arith in
-      let w : a ≡ g (getD old i d) = v ∙ ap g (unplaced new i u) in
-      (rw (add-one) (take-suc-set new i a h ∙ ap (λ (l : List A). l ++ (a ∷ [])) t ∙ ap (λ (c : A). map g (take i old) ++ (c ∷ [])) w ∙ sym (ap (map g) (take-suc old i d k) ∙ map-append g (take i old) (getD old i d ∷ []))),
-       drop-set-lt (i + 1) new i a (omega arith) ∙ sym (drop-drop 1 i new) ∙ ap (drop 1) u ∙ drop-drop 1 i old)
+      let w : a ≡ g (getD old i d) = v ∙ ap g (unplaced new i u) in (
+        rw (add-one) (take-suc-set new i a h ∙ ap (λ (l : List A). l ++ (a ∷ [])) t ∙ ap (λ (c : A). map g (take i old) ++ (c ∷ [])) w ∙ sym (ap (map g) (take-suc old i d k) ∙ map-append g (take i old) (getD old i d ∷ []))),
+        drop-set-lt (i + 1) new i a (omega arith) ∙ sym (drop-drop 1 i new) ∙ ap (drop 1) u ∙ drop-drop 1 i old,
+      )
 
   pub placed : (new : List A) (i : ℕ) → Placed new i → length new ≤ i → new ≡ map g old
   placed new i h k = sym (take-all i new k) ∙ h .2 ∙ ap (map g) (take-all i old (omega arith))

@@ -24,7 +24,7 @@ same-length c = search needs
 
 returns : tie.Need-returns
 unfolding replyNumber
-returns c = 
+returns c =
     let a = c .before .before .before .before .before .before .before .before .args in
     let px = pixels (now (a .valid-mask)) (now (a .db)) in
     let e = pixels-length (now (a .valid-mask)) (now (a .db)) (omega arith) in
@@ -36,7 +36,7 @@ is-painted-requires c κs = search needs
 
 returns-2 : tie.Need-returns-2
 unfolding replyNumber
-returns-2 c = 
+returns-2 c =
     let g = c .before .before .before .window .given in
     let a = c .before .before .before .before .before .before .before .before .args in
     let px = pixels (now (a .valid-mask)) (now (a .db)) in

@@ -15,7 +15,7 @@ returns : tie.Need-returns
 returns c = call-shape _ _ _ _ _ _ (c .before .shape-refusal .ensures) (c .if1 .taken)
 
 band-window-requires : tie.Need-band-window-requires
-band-window-requires c κs = 
+band-window-requires c κs =
     let s = shape-accepted _ _ _ _ (sym (c .before .shape-refusal .ensures) ∙ c .if1 .left) in
     (s .length-marks ∙ sym (s .length-db), omega (arith, s .length-db, mul-le-mul (s .rows-most) (s .cols-most)))
 

@@ -16,7 +16,7 @@ is-painted-requires : tie.Need-is-painted-requires
 is-painted-requires c κs = search needs
 
 returns-2 : tie.Need-returns-2
-returns-2 c = 
+returns-2 c =
     let g = c .before .before .window .given in
     ap not (c .is-painted .ensures) ∙ gamma-other (c .before .before .before .before .args .window) (g .0 .0) (g .0 .1 .0) (g .0 .1 .1 .0) (g .0 .1 .1 .1 .0) (g .1)
 

@@ -15,7 +15,7 @@ enum-known-window c = search needs
 
 returns : tie.Need-returns
 unfolding replyNumber leaving
-returns c = 
+returns c =
     let w = c .before in
     let a = w .before .before .before .args in
     replies-refused (leaving (a .window) (now (a .out))) (now (a .out)) (w .window .given .0 .0) (ap (λ (v : WindowAnswer). leaving v (now (a .out))) (w .window .given .1))
@@ -28,7 +28,7 @@ same-length c = search needs
 
 returns-2 : tie.Need-returns-2
 unfolding replyNumber
-returns-2 c = 
+returns-2 c =
     let m = c .before .before .before .before in
     let a = m .before .before .args in
     replies-done (leaving (a .window) (now (a .out))) (now (a .out)) (c .before .before .clear-u8 .last .0) (map (λ x. 0) (now (a .out))) (not-refused (a .window) (now (a .out)) (m .match .keys2)) (c .before .before .clear-u8 .ensures)

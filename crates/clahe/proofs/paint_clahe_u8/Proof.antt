@@ -1,32 +1,24 @@
-use Rattle.clahe.proofs.Painted.{shades-are}
-use Rattle.clahe.specs.Band.{band}
-use Rattle.spec.specs.Value.{full8}
+-- `clahe::paint_clahe_u8` meets its contract: the work list holds the tables, so that the values from it are `claheValues`. Assumes nothing.
 use mathlib.Core.Path.{_∙_}
 use borrow.Author.Needs.{needs}
+use Rattle.spec.specs.Value.{full8}
+use Rattle.clahe.specs.Band.{band}
+use Rattle.clahe.proofs.Painted.{shades-are}
 use Rattle.clahe.proofs.paint_clahe_u8.Statement.{statement}
 use Rattle.clahe.proofs.paint_clahe_u8.Tie as tie
-use Rattle.clahe.proofs.paint_clahe_u8.Reads as reads
-use Rattle.clahe.proofs.paint_clahe_u8.Lts as lts
-use Rattle.clahe.proofs.paint_work_u8.Reads as paint-work-u8-reads
-use Rattle.clahe.proofs.sums.write_tables.Reads as write-tables-reads
 
--- src/lib.rt:39:5
 write-tables-requires : tie.Need-write-tables-requires
 write-tables-requires c κs = search needs
 
--- src/lib.rt:44:5
 paint-work-u8-requires : tie.Need-paint-work-u8-requires
 paint-work-u8-requires c κs = search needs
 
--- src/lib.rt:35:1
 same-length : tie.Need-same-length
 same-length c = search needs
 
--- src/lib.rt:35:1
 same-length-2 : tie.Need-same-length-2
 same-length-2 c = search needs
 
--- src/lib.rt:35:1
 returns : tie.Need-returns
 returns c =
     let p = c .before .before in

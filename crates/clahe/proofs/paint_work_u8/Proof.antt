@@ -1,22 +1,15 @@
-use Rattle.clahe.proofs.Positioned.{of-side}
+-- `clahe::paint_work_u8` meets its contract. Assumes nothing.
 use borrow.Author.Needs.{needs}
-use Rattle.clahe.proofs.paint_work_u8.Statement.{statement}
+use Rattle.clahe.proofs.Positioned.{of-side}
 use Rattle.clahe.proofs.paint_work_u8.Tie as tie
-use Rattle.clahe.proofs.paint_work_u8.Reads as reads
-use Rattle.clahe.proofs.paint_work_u8.Lts as lts
-use Rattle.clahe.proofs.columns.column_positions.Reads as column-positions-reads
-use Rattle.clahe.proofs.paint.paint_rows_u8.Reads as paint-rows-u8-reads
-use Rattle.clahe.proofs.tiles.tile_side.Reads as tile-side-reads
+use Rattle.clahe.proofs.paint_work_u8.Statement.{statement}
 
--- src/lib.rt:30:22
 tile-side-requires : tie.Need-tile-side-requires
 tile-side-requires c κs = search needs
 
--- src/lib.rt:30:5
 column-positions-requires : tie.Need-column-positions-requires
 column-positions-requires c κs = search needs
 
--- src/lib.rt:31:5
 paint-rows-u8-requires : tie.Need-paint-rows-u8-requires
 paint-rows-u8-requires c κs =
     let n = c .before .before .before .before .before .before .before .before .before in
@@ -24,11 +17,9 @@ paint-rows-u8-requires c κs =
     let s = t .before .before .before .before .before in
     (s .pre, of-side (t .tile-side .ensures) (n .column-positions .ensures))
 
--- src/lib.rt:26:1
 same-length : tie.Need-same-length
 same-length c = search needs
 
--- src/lib.rt:26:1
 returns : tie.Need-returns
 returns c = search needs
 

@@ -40,9 +40,11 @@ loop-less c = omega arith
 loop-again : tie.Need-loop-again Inv-loop μ-loop
 loop-again c =
     let l = c .before .before .before .before in
-    let xs = now (l .before .before .args .«data») in
-    (omega arith, rw (c .before .min-u16 .ensures) (lowest-more (l .loop .lo) (lowest 65535 xs) xs (l .loop .i) (omega arith) (l .loop .inv .1)),
-    rw (c .max-u16 .ensures) (highest-more (l .loop .hi) (highest 0 xs) xs (l .loop .i) (omega arith) (l .loop .inv .2)))
+    let xs = now (l .before .before .args .«data») in (
+      omega arith,
+      rw (c .before .min-u16 .ensures) (lowest-more (l .loop .lo) (lowest 65535 xs) xs (l .loop .i) (omega arith) (l .loop .inv .1)),
+      rw (c .max-u16 .ensures) (highest-more (l .loop .hi) (highest 0 xs) xs (l .loop .i) (omega arith) (l .loop .inv .2)),
+    )
 
 returns : tie.Need-returns Inv-loop μ-loop
 unfolding lowest highest

@@ -10,6 +10,7 @@ use Rattle.stretch.proofs.Calls.{long-refused, unlike-refused, stretch-
 use borrow.Author.Needs.{needs}
 use Rattle.stretch.proofs.scale_u16_to_u8.Statement.{statement}
 use Rattle.stretch.proofs.scale_u16_to_u8.Tie as tie
+
 returns : tie.Need-returns
 unfolding replyNumber number after
 returns c =

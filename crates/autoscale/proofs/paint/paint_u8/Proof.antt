@@ -96,9 +96,10 @@ returns c =
     let a = l .before .before .before .before .args in
     let o = l .loop .out in
     let e = pixels-length (now (a .valid-mask)) (now (a .db)) (omega arith) in
-    let t = take-all (l .loop .i) o (c .loop-test .left) in
-    (finish (paint full8 (a .low) (a .high) (a .range)) off (pixels (now (a .valid-mask)) (now (a .db))) o (l .loop .i) (omega arith, omega arith, l .loop .inv .2) (c .loop-test .left),
-    (l .loop .inv .3 ∙ ap (lowest 65535) t, l .loop .inv .4 ∙ ap (highest 0) t))
+    let t = take-all (l .loop .i) o (c .loop-test .left) in (
+      finish (paint full8 (a .low) (a .high) (a .range)) off (pixels (now (a .valid-mask)) (now (a .db))) o (l .loop .i) (omega arith, omega arith, l .loop .inv .2) (c .loop-test .left),
+      (l .loop .inv .3 ∙ ap (lowest 65535) t, l .loop .inv .4 ∙ ap (highest 0) t),
+    )
 
 pub paint-u8-spec : {M : Type 1} → statement M
 paint-u8-spec = tie.close (tie.spec Inv-loop μ-loop loop-holds mul-value-u8 shared-slice-read-value-u8 value-u8-requires shared-slice-read-masked-u8 masked-u8-requires slice-write-out cast-min-u16 min-u16-requires cast-max-u16 max-u16-requires add-i loop-less loop-again same-length returns)

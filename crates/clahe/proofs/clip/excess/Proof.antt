@@ -1,18 +1,15 @@
-use borrow.Author.Needs.{needs}
-use Rattle.clahe.proofs.Excess.{excess-next, excess-end}
-use Rattle.spec.specs.Clahe.{excess}
-use Rattle.spec.specs.Floats.{zero64}
-use lib.Ieee.{Float}
-use lib.ListN.{length, drop, getD}
-use native.Mathlib.Omega.{arith}
-use Prim.Native.Nat.{ℕ, _+_, _-_, _≤_, _<_}
-use mathlib.Core.List.{List}
+-- `clahe::clip::excess` meets its contract. The invariant: what is left of the bins, from the sum so far, gives the whole excess. Assumes nothing.
 use mathlib.Core.Path.{_≡_, refl, _∙_, sym, ap}
+use Prim.Native.Nat.{_+_, _-_, _≤_}
+use native.Mathlib.Omega.{arith}
+use borrow.Author.Needs.{needs}
+use lib.ListN.{drop}
+use lib.Ieee.{Float}
+use Rattle.spec.specs.Floats.{zero64}
+use Rattle.spec.specs.Clahe.{excess}
+use Rattle.clahe.proofs.Excess.{excess-next, excess-end}
 use Rattle.clahe.proofs.clip.excess.Statement.{statement}
 use Rattle.clahe.proofs.clip.excess.Tie as tie
-use Rattle.clahe.proofs.clip.excess.Reads as reads
-use Rattle.clahe.proofs.clip.excess.Lts as lts
-use Rattle.clahe.proofs.clip.with_excess.Reads as with-excess-reads
 
 abbrev Inv-loop : tie.InvT-loop
 Inv-loop hist limit sum₀ b₀ sum b = (b ≤ 256) × (excess limit zero64 hist ≡ excess limit sum (drop b hist))
@@ -20,31 +17,24 @@ Inv-loop hist limit sum₀ b₀ sum b = (b ≤ 256) × (excess limit zero64 hist
 abbrev μ-loop : tie.MeasureT-loop
 μ-loop hist limit sum₀ b₀ sum b = 256 - b
 
--- src/clip.rt:44:5
 loop-holds : tie.Need-loop-holds Inv-loop μ-loop
 loop-holds c = (omega arith, refl)
 
--- src/clip.rt:45:32
 mul-with-excess : tie.Need-mul-with-excess Inv-loop μ-loop
 mul-with-excess c = search needs
 
--- src/clip.rt:45:32
 shared-slice-read-with-excess : tie.Need-shared-slice-read-with-excess Inv-loop μ-loop
 shared-slice-read-with-excess c = search needs
 
--- src/clip.rt:45:9
 with-excess-requires : tie.Need-with-excess-requires Inv-loop μ-loop
 with-excess-requires c κs = search needs
 
--- src/clip.rt:46:9
 add-b : tie.Need-add-b Inv-loop μ-loop
 add-b c = search needs
 
--- src/clip.rt:44:5
 loop-less : tie.Need-loop-less Inv-loop μ-loop
 loop-less c = search needs
 
--- src/clip.rt:44:5
 loop-again : tie.Need-loop-again Inv-loop μ-loop
 loop-again c =
     let l = c .before .before .before in
@@ -53,7 +43,6 @@ loop-again c =
      l .loop .inv .1 ∙ excess-next (a .limit) (l .loop .sum) (a .hist .now) (l .loop .b) (omega arith)
      ∙ ap (λ (s : Float). excess (a .limit) s (drop (l .loop .b + 1) (a .hist .now))) (sym (c .with-excess .ensures)))
 
--- src/clip.rt:38:1
 returns : tie.Need-returns Inv-loop μ-loop
 returns c =
     let a = c .before .before .before .args in

@@ -1,20 +1,18 @@
+-- `clahe::clip::share` meets its contract. The invariant: the bins before b have their share, the others are as they were. Assumes nothing.
+use mathlib.Core.Path.{_≡_, ap, _∙_}
+use mathlib.Core.Bool.{cond}
+use mathlib.Core.List.{map}
+use Prim.Native.Nat.{ℕ, _+_, _-_, _≤_}
+use native.Mathlib.Omega.{arith}
 use borrow.Author.Needs.{needs}
+use lib.Dec.{ltb}
+use lib.ListN.{length, length-set, length-map}
+use Rattle.spec.specs.Clahe.{oneByOne}
 use Rattle.clahe.proofs.InPlace.{Turned, turned-none, turned-next, turned-all}
 use Rattle.clahe.proofs.Shares.{one-by-one-length, one-by-one-at}
 use Rattle.clahe.proofs.Cells.{map-at}
-use Rattle.spec.specs.Clahe.{oneByOne}
-use lib.ListN.{length, getD, length-set, length-map}
-use lib.Dec.{ltb}
-use native.Mathlib.Omega.{arith}
-use Prim.Native.Nat.{ℕ, _+_, _-_, _^_, _≤_, _<_}
-use mathlib.Core.List.{map}
-use mathlib.Core.Bool.{cond}
-use mathlib.Core.Path.{_≡_, ap, sym, _∙_}
 use Rattle.clahe.proofs.clip.share.Statement.{statement}
 use Rattle.clahe.proofs.clip.share.Tie as tie
-use Rattle.clahe.proofs.clip.share.Reads as reads
-use Rattle.clahe.proofs.clip.share.Lts as lts
-use Rattle.clahe.proofs.clip.with_share.Reads as with-share-reads
 
 abbrev Inv-loop : tie.InvT-loop
 Inv-loop hist₀ each rest b₀ hist b = (b ≤ 256) × (length hist ≡ 256) × Turned (λ k h. h + each + cond (ltb k rest) 1 0) hist₀ b hist
@@ -22,44 +20,35 @@ Inv-loop hist₀ each rest b₀ hist b = (b ≤ 256) × (length hist ≡ 256) ×
 abbrev μ-loop : tie.MeasureT-loop
 μ-loop hist₀ each rest b₀ hist b = 256 - b
 
--- src/clip.rt:85:5
 loop-holds : tie.Need-loop-holds Inv-loop μ-loop
 loop-holds c =
     let a = c .before .args in
     (omega arith, omega arith, turned-none (λ k h. h + a .each + cond (ltb k (a .rest)) 1 0) (a .hist .now))
 
--- src/clip.rt:86:17
 mul-h : tie.Need-mul-h Inv-loop μ-loop
 mul-h c = search needs
 
--- src/clip.rt:86:17
 slice-read-h : tie.Need-slice-read-h Inv-loop μ-loop
 slice-read-h c = search needs
 
--- src/clip.rt:87:19
 with-share-requires : tie.Need-with-share-requires Inv-loop μ-loop
 with-share-requires c κs =
     let l = c .before .before in
     let s = l .before .before in
     omega (arith, s .pre .1 (l .loop .b), l .loop .inv .2 .same (l .loop .b) (omega arith))
 
--- src/clip.rt:87:9
 mul-hist : tie.Need-mul-hist Inv-loop μ-loop
 mul-hist c = search needs
 
--- src/clip.rt:87:9
 slice-write-hist : tie.Need-slice-write-hist Inv-loop μ-loop
 slice-write-hist c = search needs
 
--- src/clip.rt:88:9
 add-b : tie.Need-add-b Inv-loop μ-loop
 add-b c = search needs
 
--- src/clip.rt:85:5
 loop-less : tie.Need-loop-less Inv-loop μ-loop
 loop-less c = search needs
 
--- src/clip.rt:85:5
 loop-again : tie.Need-loop-again Inv-loop μ-loop
 loop-again c =
     let l = c .before .before .before in
@@ -67,11 +56,9 @@ loop-again c =
     (omega arith, simp length-set (omega arith),
      turned-next (λ k h. h + a .each + cond (ltb k (a .rest)) 1 0) (a .hist .now) (l .loop .b) (l .loop .hist) _ (l .loop .inv .2) (omega arith) (c .with-share .ensures))
 
--- src/clip.rt:80:1
 same-length : tie.Need-same-length Inv-loop μ-loop
 same-length c = search needs
 
--- src/clip.rt:80:1
 returns : tie.Need-returns Inv-loop μ-loop
 returns c =
     let l = c .before in

@@ -1,22 +1,17 @@
-use Rattle.clahe.proofs.Whole.{in-float}
-use Rattle.spec.specs.Clahe.{threshold}
+-- `clahe::clip::threshold` meets its contract. Assumes nothing.
 use native.Mathlib.Omega.{arith}
 use borrow.Author.Needs.{needs}
+use Rattle.spec.specs.Clahe.{threshold}
+use Rattle.clahe.proofs.Whole.{in-float}
 use Rattle.clahe.proofs.clip.threshold.Statement.{statement}
 use Rattle.clahe.proofs.clip.threshold.Tie as tie
-use Rattle.clahe.proofs.clip.threshold.Reads as reads
-use Rattle.clahe.proofs.clip.threshold.Lts as lts
-use Rattle.numeric.proofs.max_f64.Reads as max-f64-reads
 
--- src/clip.rt:25:29
 int-to-float-max-f64 : tie.Need-int-to-float-max-f64
 int-to-float-max-f64 c = in-float (c .before .args .area) (omega arith)
 
--- src/clip.rt:25:5
 max-f64-requires : tie.Need-max-f64-requires
 max-f64-requires c κs = search needs
 
--- src/clip.rt:21:1
 returns : tie.Need-returns
 unfolding threshold
 returns c = c .max-f64 .ensures

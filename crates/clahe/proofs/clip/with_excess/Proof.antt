@@ -1,20 +1,21 @@
+-- `clahe::clip::with_excess` meets its contract. Assumes nothing.
+use mathlib.Core.Path.{ap}
 use borrow.Author.Needs.{needs}
-use Rattle.clahe.proofs.clip.with_excess.Statement.{statement}
+use lib.Ieee.{binary64, add}
 use Rattle.clahe.proofs.clip.with_excess.Tie as tie
-use Rattle.clahe.proofs.clip.with_excess.Reads as reads
-use Rattle.clahe.proofs.clip.with_excess.Lts as lts
+use Rattle.clahe.proofs.clip.with_excess.Statement.{statement}
 
--- src/clip.rt:32:16
 int-to-float-size : tie.Need-int-to-float-size
 int-to-float-size c = search needs
 
--- src/clip.rt:29:1
-returns : tie.Need-returns
-returns c = simp (c .if1 .taken)
+above-requires : tie.Need-above-requires
+above-requires c κs = search needs
 
--- src/clip.rt:29:1
+returns : tie.Need-returns
+returns c = simp (c .before .if1 .taken) (ap (add binary64 (c .before .before .before .args .sum)) (c .above .ensures))
+
 returns-2 : tie.Need-returns-2
 returns-2 c = simp (c .if1 .left)
 
 pub with-excess-spec : {M : Type 1} → statement M
-with-excess-spec = tie.close (tie.spec int-to-float-size returns returns-2)
+with-excess-spec = tie.close (tie.spec int-to-float-size above-requires returns returns-2)

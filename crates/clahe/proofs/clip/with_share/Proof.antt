@@ -1,31 +1,22 @@
-use borrow.Author.Tests.{lt-ltb, le-ltb}
+-- `clahe::clip::with_share` meets its contract. Assumes nothing.
 use native.Mathlib.Omega.{arith}
-use Prim.Native.Nat.{_+_}
-use mathlib.Core.Bool.{Bool, cond}
-use mathlib.Core.Path.{sym, ap}
+use borrow.Author.Tests.{lt-ltb, le-ltb}
 use borrow.Author.Needs.{needs}
-use Rattle.clahe.proofs.clip.with_share.Statement.{statement}
 use Rattle.clahe.proofs.clip.with_share.Tie as tie
-use Rattle.clahe.proofs.clip.with_share.Reads as reads
-use Rattle.clahe.proofs.clip.with_share.Lts as lts
+use Rattle.clahe.proofs.clip.with_share.Statement.{statement}
 
--- src/clip.rt:76:19
 add-result : tie.Need-add-result
 add-result c = search needs
 
--- src/clip.rt:76:19
 add-result-2 : tie.Need-add-result-2
 add-result-2 c = search needs
 
--- src/clip.rt:76:41
 add-result-3 : tie.Need-add-result-3
 add-result-3 c = search needs
 
--- src/clip.rt:72:1
 returns : tie.Need-returns
 returns c = simp (lt-ltb _ _ (c .if1 .taken))
 
--- src/clip.rt:72:1
 returns-2 : tie.Need-returns-2
 returns-2 c = simp (le-ltb _ _ (c .if1 .left)) (omega arith)
 

@@ -1,51 +1,39 @@
+-- `clahe::columns::column` meets its contract. Assumes nothing.
 use native.Mathlib.Omega.{arith}
 use borrow.Author.Needs.{needs}
 use Rattle.clahe.proofs.columns.column.Statement.{statement}
 use Rattle.clahe.proofs.columns.column.Tie as tie
-use Rattle.clahe.proofs.columns.column.Reads as reads
-use Rattle.clahe.proofs.columns.column.Lts as lts
 
--- src/columns.rt:32:19
 mul-t6 : tie.Need-mul-t6
 mul-t6 c = search needs
 
--- src/columns.rt:32:19
 shared-slice-read-t8 : tie.Need-shared-slice-read-t8
 shared-slice-read-t8 c = search needs
 
--- src/columns.rt:33:16
 mul-t9 : tie.Need-mul-t9
 mul-t9 c = search needs
 
--- src/columns.rt:33:16
 shared-slice-read-t11 : tie.Need-shared-slice-read-t11
 shared-slice-read-t11 c = search needs
 
--- src/columns.rt:33:16
 cast-t12 : tie.Need-cast-t12
 cast-t12 c = omega (arith, c .shared-slice-known2 .given (c .before .before .args .c))
 
--- src/columns.rt:34:17
 mul-t13 : tie.Need-mul-t13
 mul-t13 c = search needs
 
--- src/columns.rt:34:17
 shared-slice-read-t15 : tie.Need-shared-slice-read-t15
 shared-slice-read-t15 c = search needs
 
--- src/columns.rt:34:17
 cast-t16 : tie.Need-cast-t16
 cast-t16 c = omega (arith, c .shared-slice-known3 .given (c .before .before .before .args .c))
 
--- src/columns.rt:35:17
 mul-t17 : tie.Need-mul-t17
 mul-t17 c = search needs
 
--- src/columns.rt:35:17
 shared-slice-read-t19 : tie.Need-shared-slice-read-t19
 shared-slice-read-t19 c = search needs
 
--- src/columns.rt:27:1
 returns : tie.Need-returns
 returns c = search needs
 

@@ -1,16 +1,14 @@
-use borrow.Author.Needs.{needs}
-use Rattle.clahe.proofs.Positioned.{among-of, column-next}
-use Rattle.clahe.specs.Paint.{Columns, columnAt}
-use Rattle.spec.specs.Clahe.{positionOf}
-use lib.ListN.{length, length-set}
-use native.Mathlib.Omega.{arith}
-use Prim.Native.Nat.{ℕ, _+_, _-_, _≤_, _<_}
+-- `clahe::columns::column_positions` meets its contract. The invariant: the positions of the columns before c are written. Assumes nothing.
 use mathlib.Core.Path.{_≡_}
-use Rattle.clahe.proofs.columns.column_positions.Statement.{statement}
+use Prim.Native.Nat.{ℕ, _-_, _≤_, _<_}
+use native.Mathlib.Omega.{arith}
+use borrow.Author.Needs.{needs}
+use lib.ListN.{length, length-set}
+use Rattle.spec.specs.Clahe.{positionOf}
+use Rattle.clahe.specs.Paint.{columnAt}
+use Rattle.clahe.proofs.Positioned.{among-of, column-next}
 use Rattle.clahe.proofs.columns.column_positions.Tie as tie
-use Rattle.clahe.proofs.columns.column_positions.Reads as reads
-use Rattle.clahe.proofs.columns.column_positions.Lts as lts
-use Rattle.clahe.proofs.sampling.tile_position.Reads as tile-position-reads
+use Rattle.clahe.proofs.columns.column_positions.Statement.{statement}
 
 abbrev Inv-loop : tie.InvT-loop
 Inv-loop side cols positions₀ firsts₀ seconds₀ weights₀ c₀ positions firsts seconds weights c =
@@ -20,23 +18,18 @@ Inv-loop side cols positions₀ firsts₀ seconds₀ weights₀ c₀ positions f
 abbrev μ-loop : tie.MeasureT-loop
 μ-loop side cols positions₀ firsts₀ seconds₀ weights₀ c₀ positions firsts seconds weights c = cols - c
 
--- src/columns.rt:16:5
 loop-holds : tie.Need-loop-holds Inv-loop μ-loop
 loop-holds c = (omega arith, omega arith, omega arith, omega arith, omega arith, λ j h. absurd (omega arith))
 
--- src/columns.rt:17:13
 tile-position-requires : tie.Need-tile-position-requires Inv-loop μ-loop
 tile-position-requires c κs = search needs
 
--- src/columns.rt:18:9
 mul-positions : tie.Need-mul-positions Inv-loop μ-loop
 mul-positions c = search needs
 
--- src/columns.rt:18:9
 slice-write-positions : tie.Need-slice-write-positions Inv-loop μ-loop
 slice-write-positions c = search needs
 
--- src/columns.rt:19:21
 cast-firsts : tie.Need-cast-firsts Inv-loop μ-loop
 cast-firsts c =
     let p = c .before in
@@ -44,15 +37,12 @@ cast-firsts c =
     let a = l .before .before .before .before .before .args in
     omega (arith, among-of (a .side) (l .loop .c) (p .tile-position .result) (p .tile-position .ensures))
 
--- src/columns.rt:19:9
 mul-firsts : tie.Need-mul-firsts Inv-loop μ-loop
 mul-firsts c = search needs
 
--- src/columns.rt:19:9
 slice-write-firsts : tie.Need-slice-write-firsts Inv-loop μ-loop
 slice-write-firsts c = search needs
 
--- src/columns.rt:20:22
 cast-seconds : tie.Need-cast-seconds Inv-loop μ-loop
 cast-seconds c =
     let p = c .before .before in
@@ -60,31 +50,24 @@ cast-seconds c =
     let a = l .before .before .before .before .before .args in
     omega (arith, among-of (a .side) (l .loop .c) (p .tile-position .result) (p .tile-position .ensures))
 
--- src/columns.rt:20:9
 mul-seconds : tie.Need-mul-seconds Inv-loop μ-loop
 mul-seconds c = search needs
 
--- src/columns.rt:20:9
 slice-write-seconds : tie.Need-slice-write-seconds Inv-loop μ-loop
 slice-write-seconds c = search needs
 
--- src/columns.rt:21:9
 mul-weights : tie.Need-mul-weights Inv-loop μ-loop
 mul-weights c = search needs
 
--- src/columns.rt:21:9
 slice-write-weights : tie.Need-slice-write-weights Inv-loop μ-loop
 slice-write-weights c = search needs
 
--- src/columns.rt:22:9
 add-c : tie.Need-add-c Inv-loop μ-loop
 add-c c = search needs
 
--- src/columns.rt:16:5
 loop-less : tie.Need-loop-less Inv-loop μ-loop
 loop-less c = search needs
 
--- src/columns.rt:16:5
 loop-again : tie.Need-loop-again Inv-loop μ-loop
 loop-again c =
     let p = c .before .before in
@@ -94,23 +77,18 @@ loop-again c =
      column-next (a .side) (l .loop .positions) (l .loop .firsts) (l .loop .seconds) (l .loop .weights) (l .loop .c) (p .tile-position .result) (p .tile-position .ensures)
      (omega arith) (omega arith) (omega arith) (omega arith) (l .loop .inv .5))
 
--- src/columns.rt:10:1
 same-length : tie.Need-same-length Inv-loop μ-loop
 same-length c = search needs
 
--- src/columns.rt:10:1
 same-length-2 : tie.Need-same-length-2 Inv-loop μ-loop
 same-length-2 c = search needs
 
--- src/columns.rt:10:1
 same-length-3 : tie.Need-same-length-3 Inv-loop μ-loop
 same-length-3 c = search needs
 
--- src/columns.rt:10:1
 same-length-4 : tie.Need-same-length-4 Inv-loop μ-loop
 same-length-4 c = search needs
 
--- src/columns.rt:10:1
 returns : tie.Need-returns Inv-loop μ-loop
 returns c =
     let l = c .before in

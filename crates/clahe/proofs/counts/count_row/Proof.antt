@@ -1,21 +1,17 @@
-use Rattle.spec.specs.Clahe.{levelOf}
-use borrow.Author.Needs.{needs}
-use Rattle.clahe.proofs.Rows.{Most, added-most, row-end, row-on, row-off}
-use Rattle.clahe.specs.Band.{band, levels}
-use Rattle.spec.specs.Lists.{added, stored}
-use lib.ListN.{length, drop, getD, length-set}
-use lib.Ieee.{nan}
-use native.Mathlib.Omega.{arith}
-use Prim.Native.Nat.{ℕ, _+_, _-_, _≤_, _<_}
-use mathlib.Core.List.{List}
-use mathlib.Core.Logic.{⊎-elim}
+-- `clahe::counts::count_row` meets its contract. The invariant: what is left of the row, added to the counts so far, gives the whole. Assumes nothing.
 use mathlib.Core.Path.{_≡_, refl, sym, ap, _∙_}
+use mathlib.Core.Logic.{⊎-elim}
+use Prim.Native.Nat.{ℕ, _+_, _-_, _≤_}
+use native.Mathlib.Omega.{arith}
+use borrow.Author.Needs.{needs}
+use lib.ListN.{length, drop, length-set}
+use lib.Ieee.{nan}
+use Rattle.spec.specs.Clahe.{levelOf}
+use Rattle.spec.specs.Lists.{added, stored}
+use Rattle.clahe.specs.Band.{band, levels}
+use Rattle.clahe.proofs.Rows.{Most, added-most, row-end, row-on, row-off}
 use Rattle.clahe.proofs.counts.count_row.Statement.{statement}
 use Rattle.clahe.proofs.counts.count_row.Tie as tie
-use Rattle.clahe.proofs.counts.count_row.Reads as reads
-use Rattle.clahe.proofs.counts.count_row.Lts as lts
-use Rattle.clahe.proofs.counts.level_of.Reads as level-of-reads
-use Rattle.clahe.proofs.counts.normalised.Reads as normalised-reads
 
 abbrev Inv-loop : tie.InvT-loop
 Inv-loop db valid-mask low high range hist₀ i₀ hist i =
@@ -25,63 +21,49 @@ Inv-loop db valid-mask low high range hist₀ i₀ hist i =
 abbrev μ-loop : tie.MeasureT-loop
 μ-loop db valid-mask low high range hist₀ i₀ hist i = length db - i
 
--- src/counts.rt:33:5
 loop-holds : tie.Need-loop-holds Inv-loop μ-loop
 loop-holds c =
     let s = c .before .before .before in
     (omega arith, omega arith, λ k. omega (arith, s .pre .1 .1 k), refl)
 
--- src/counts.rt:34:12
 shared-slice-read-if1 : tie.Need-shared-slice-read-if1 Inv-loop μ-loop
 shared-slice-read-if1 c = search needs
 
--- src/counts.rt:35:41
 mul-normalised : tie.Need-mul-normalised Inv-loop μ-loop
 mul-normalised c = search needs
 
--- src/counts.rt:35:41
 shared-slice-read-normalised : tie.Need-shared-slice-read-normalised Inv-loop μ-loop
 shared-slice-read-normalised c = search needs
 
--- src/counts.rt:35:30
 normalised-requires : tie.Need-normalised-requires Inv-loop μ-loop
 normalised-requires c κs = search needs
 
--- src/counts.rt:35:17
 level-of-requires : tie.Need-level-of-requires Inv-loop μ-loop
 level-of-requires c κs = search needs
 
--- src/counts.rt:36:21
 mul-n : tie.Need-mul-n Inv-loop μ-loop
 mul-n c = search needs
 
--- src/counts.rt:36:21
 slice-read-n : tie.Need-slice-read-n Inv-loop μ-loop
 slice-read-n c = search needs
 
--- src/counts.rt:37:23
 add-hist : tie.Need-add-hist Inv-loop μ-loop
 add-hist c =
     let l = c .before .before .before .before .before .before .before in
     omega (arith, l .loop .inv .2 (c .before .level-of .result))
 
--- src/counts.rt:37:13
 mul-hist : tie.Need-mul-hist Inv-loop μ-loop
 mul-hist c = search needs
 
--- src/counts.rt:37:13
 slice-write-hist : tie.Need-slice-write-hist Inv-loop μ-loop
 slice-write-hist c = search needs
 
--- src/counts.rt:39:9
 add-i : tie.Need-add-i Inv-loop μ-loop
 add-i c = search needs
 
--- src/counts.rt:33:5
 loop-less : tie.Need-loop-less Inv-loop μ-loop
 loop-less c = search needs
 
--- src/counts.rt:33:5
 loop-again : tie.Need-loop-again Inv-loop μ-loop
 loop-again c =
     let l = c .before .before .before in
@@ -101,11 +83,9 @@ loop-again c =
        l .loop .inv .3 ∙ row-off (a .low) (a .high) (a .range) (a .valid-mask .now) (a .db .now) h i nan (omega arith) (omega arith) (w .0 .left)))
     (c .if1 .came)
 
--- src/counts.rt:27:1
 same-length : tie.Need-same-length Inv-loop μ-loop
 same-length c = search needs
 
--- src/counts.rt:27:1
 returns : tie.Need-returns Inv-loop μ-loop
 returns c =
     let l = c .before in

@@ -1,25 +1,20 @@
-use Rattle.clahe.proofs.Parts.{band-between}
-use Rattle.clahe.proofs.Whole.{times-most}
-use Rattle.spec.specs.Pixels.{Pixel}
-use borrow.Author.Needs.{needs}
-use Rattle.clahe.proofs.Tiling.{Rest, rowOf, tile-row, tile-most, row-most, rest-next, rest-end, tile-start-of, tile-narrow, tile-counts, tile-inside}
-use Rattle.clahe.proofs.Rows.{Most}
-use Rattle.clahe.specs.Band.{band, levels}
-use Rattle.spec.specs.Clahe.{tilePixels}
-use Rattle.spec.specs.Lists.{stored}
-use lib.ListN.{length, drop, getD, take, length-take, length-drop}
-use lib.Ieee.{Float}
-use native.Mathlib.Omega.{arith}
-use Prim.Native.Nat.{ℕ, _+_, _-_, _*_, _≤_, _<_}
+-- `clahe::counts::count_tile` meets its contract. The invariant: the rows that are left, added to the counts so far, give the whole tile. Assumes nothing.
+use mathlib.Core.Path.{_≡_, sym, ap, _∙_, subst}
 use mathlib.Core.List.{List}
-use mathlib.Core.Path.{_≡_, refl, sym, ap, _∙_, subst}
+use Prim.Native.Nat.{ℕ, _+_, _-_, _*_, _≤_, _<_}
+use native.Mathlib.Omega.{arith}
+use borrow.Author.Needs.{needs}
+use lib.ListN.{length, drop, getD, length-take, length-drop}
+use Rattle.spec.specs.Lists.{stored}
+use Rattle.spec.specs.Pixels.{Pixel}
+use Rattle.spec.specs.Clahe.{tilePixels}
+use Rattle.clahe.specs.Band.{band, levels}
+use Rattle.clahe.proofs.Rows.{Most}
+use Rattle.clahe.proofs.Whole.{times-most}
+use Rattle.clahe.proofs.Tiling.{Rest, rowOf, tile-row, tile-most, row-most, rest-next, rest-end, tile-start-of, tile-narrow, tile-counts, tile-inside}
+use Rattle.clahe.proofs.Parts.{band-between}
 use Rattle.clahe.proofs.counts.count_tile.Statement.{statement}
 use Rattle.clahe.proofs.counts.count_tile.Tie as tie
-use Rattle.clahe.proofs.counts.count_tile.Reads as reads
-use Rattle.clahe.proofs.counts.count_tile.Lts as lts
-use Rattle.clahe.proofs.counts.count_row.Reads as count-row-reads
-use Rattle.clahe.proofs.tiles.tile_size.Reads as tile-size-reads
-use Rattle.clahe.proofs.tiles.tile_start.Reads as tile-start-reads
 
 abbrev Inv-loop : tie.InvT-loop
 Inv-loop db valid-mask rows cols low high range ty tx hist₀ top height left width r₀ hist r =
@@ -44,23 +39,18 @@ inside c =
      omega (arith, d .tile-size2 .ensures, tile-most (a .cols) (a .tx), s .pre .0 .0 .wide),
      omega (arith, d .before .before .before .tile-start .ensures, tile-inside (a .rows) (a .ty) (c .before .loop .r) (omega (arith, d .before .before .tile-size .ensures)), s .pre .0 .0 .tall))
 
--- src/counts.rt:49:9
 tile-start-requires : tie.Need-tile-start-requires Inv-loop μ-loop
 tile-start-requires c κs = search needs
 
--- src/counts.rt:50:9
 tile-size-requires : tie.Need-tile-size-requires Inv-loop μ-loop
 tile-size-requires c κs = search needs
 
--- src/counts.rt:51:9
 tile-start-requires-2 : tie.Need-tile-start-requires-2 Inv-loop μ-loop
 tile-start-requires-2 c κs = search needs
 
--- src/counts.rt:52:9
 tile-size-requires-2 : tie.Need-tile-size-requires-2 Inv-loop μ-loop
 tile-size-requires-2 c κs = search needs
 
--- src/counts.rt:54:9
 returns : tie.Need-returns Inv-loop μ-loop
 returns c =
     let d = c .before in
@@ -71,7 +61,6 @@ returns c =
       (d .before .tile-start2 .ensures) (d .tile-size2 .ensures) (c .if1 .taken))
     ∙ tile-counts (a .rows) (a .cols) px (a .ty) (a .tx) (a .hist .now) (s .pre .1 .0) (s .pre .1 .1)
 
--- src/counts.rt:57:5
 loop-holds : tie.Need-loop-holds Inv-loop μ-loop
 loop-holds c =
     let d = c .before in
@@ -82,51 +71,39 @@ loop-holds c =
      tile-start-of (a .rows) (a .cols) px (a .ty) (a .tx) (a .hist .now) _ _ _ _ (d .before .before .before .tile-start .ensures) (d .before .before .tile-size .ensures)
        (d .before .tile-start2 .ensures) (d .tile-size2 .ensures))
 
--- src/counts.rt:58:19
 add-at : tie.Need-add-at Inv-loop μ-loop
 add-at c = omega (arith, inside c)
 
--- src/counts.rt:58:18
 mul-at : tie.Need-mul-at Inv-loop μ-loop
 mul-at c = omega (arith, inside c)
 
--- src/counts.rt:58:18
 add-at-2 : tie.Need-add-at-2 Inv-loop μ-loop
 add-at-2 c = omega (arith, inside c)
 
--- src/counts.rt:59:19
 add-end : tie.Need-add-end Inv-loop μ-loop
 add-end c = omega (arith, inside c)
 
--- src/counts.rt:60:19
 mul-count-row : tie.Need-mul-count-row Inv-loop μ-loop
 mul-count-row c = omega (arith, inside c)
 
--- src/counts.rt:60:19
 sub-count-row : tie.Need-sub-count-row Inv-loop μ-loop
 sub-count-row c = search needs
 
--- src/counts.rt:60:19
 part-count-row-start : tie.Need-part-count-row-start Inv-loop μ-loop
 part-count-row-start c = search needs
 
--- src/counts.rt:60:19
 part-count-row-end : tie.Need-part-count-row-end Inv-loop μ-loop
 part-count-row-end c = let s = c .before .before .before .before .before .before .before .before .before .before in omega (arith, inside c, s .pre .0 .0 .db-length)
 
--- src/counts.rt:60:33
 sub-count-row-2 : tie.Need-sub-count-row-2 Inv-loop μ-loop
 sub-count-row-2 c = search needs
 
--- src/counts.rt:60:33
 part-count-row-start-2 : tie.Need-part-count-row-start-2 Inv-loop μ-loop
 part-count-row-start-2 c = search needs
 
--- src/counts.rt:60:33
 part-count-row-end-2 : tie.Need-part-count-row-end-2 Inv-loop μ-loop
 part-count-row-end-2 c = let s = c .before .before .before .before .before .before .before .before .before .before .before in omega (arith, inside (c .before), s .pre .0 .0 .marks-length)
 
--- src/counts.rt:60:9
 count-row-requires : tie.Need-count-row-requires Inv-loop μ-loop
 count-row-requires c κs =
     let i = c .before .before .before in
@@ -136,15 +113,12 @@ count-row-requires c κs =
     ((simp (length-take, length-drop) (omega (arith, s .pre .0 .0 .marks-length, s .pre .0 .0 .db-length)), simp (length-take, length-drop) (omega arith)),
      (omega arith, λ k. omega (arith, i .before .loop .inv .2 k)))
 
--- src/counts.rt:61:9
 add-r : tie.Need-add-r Inv-loop μ-loop
 add-r c = search needs
 
--- src/counts.rt:57:5
 loop-less : tie.Need-loop-less Inv-loop μ-loop
 loop-less c = search needs
 
--- src/counts.rt:57:5
 loop-again : tie.Need-loop-again Inv-loop μ-loop
 loop-again c =
     let m = c .before .before in
@@ -169,11 +143,9 @@ loop-again c =
        (omega (arith, row-most (l .loop .hist) (r * 4096) width (drop at px) (inside i .2) (l .loop .inv .2) k))),
      l .loop .inv .3 ∙ rest-next f top height (l .loop .hist) r (omega arith) ∙ ap (λ (h : List ℕ). Rest f top height h (r + 1)) (sym new))
 
--- src/counts.rt:44:1
 same-length : tie.Need-same-length Inv-loop μ-loop
 same-length c = search needs
 
--- src/counts.rt:44:1
 returns-2 : tie.Need-returns-2 Inv-loop μ-loop
 returns-2 c =
     let l = c .before in

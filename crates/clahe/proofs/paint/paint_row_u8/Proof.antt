@@ -1,25 +1,20 @@
+-- `clahe::paint::paint_row_u8` meets its contract. The invariant: the columns before c are painted. Assumes nothing.
+use mathlib.Core.Path.{_≡_, sym, ap, subst, _∙_}
+use mathlib.Core.Logic.{⊎-elim}
+use Prim.Native.Nat.{ℕ, _-_, _≤_, _<_}
+use native.Mathlib.Omega.{arith}
 use borrow.Author.Needs.{needs}
-use Rattle.clahe.proofs.Shades.{shade-on, shade-off}
-use Rattle.clahe.proofs.Cells.{kept-or-stored, from-places}
-use Rattle.clahe.specs.Paint.{shade, shadeAt, rowShades, columnAt}
-use Rattle.clahe.specs.Work.{Among}
+use lib.ListN.{length, getD, length-set}
+use lib.Ieee.{nan}
+use Rattle.types.specs.declared.TilePosition.{TilePosition}
 use Rattle.spec.specs.Pixels.{on}
 use Rattle.spec.specs.Value.{full8}
-use Rattle.types.specs.declared.TilePosition.{TilePosition}
-use lib.ListN.{length, getD, length-set}
-use lib.Ieee.{Float, nan}
-use native.Mathlib.Omega.{arith}
-use Prim.Native.Nat.{ℕ, _+_, _-_, _≤_, _<_}
-use mathlib.Core.List.{List}
-use mathlib.Core.Logic.{⊎-elim}
-use mathlib.Core.Path.{_≡_, sym, ap, subst, _∙_}
+use Rattle.clahe.specs.Paint.{shade, shadeAt, rowShades, columnAt}
+use Rattle.clahe.specs.Work.{Among}
+use Rattle.clahe.proofs.Shades.{shade-on, shade-off}
+use Rattle.clahe.proofs.Cells.{kept-or-stored, from-places}
 use Rattle.clahe.proofs.paint.paint_row_u8.Statement.{statement}
 use Rattle.clahe.proofs.paint.paint_row_u8.Tie as tie
-use Rattle.clahe.proofs.paint.paint_row_u8.Reads as reads
-use Rattle.clahe.proofs.paint.paint_row_u8.Lts as lts
-use Rattle.clahe.proofs.columns.column.Reads as column-reads
-use Rattle.clahe.proofs.counts.normalised.Reads as normalised-reads
-use Rattle.clahe.proofs.paint.shade_u8.Reads as shade-u8-reads
 
 abbrev Inv-loop : tie.InvT-loop
 Inv-loop db valid-mask low high range work y positions firsts seconds weights out₀ c₀ out c =
@@ -29,35 +24,27 @@ Inv-loop db valid-mask low high range work y positions firsts seconds weights ou
 abbrev μ-loop : tie.MeasureT-loop
 μ-loop db valid-mask low high range work y positions firsts seconds weights out₀ c₀ out c = length db - c
 
--- src/paint.rt:37:5
 loop-holds : tie.Need-loop-holds Inv-loop μ-loop
 loop-holds c = (omega arith, omega arith, λ k h. absurd (omega arith))
 
--- src/paint.rt:38:12
 shared-slice-read-if1 : tie.Need-shared-slice-read-if1 Inv-loop μ-loop
 shared-slice-read-if1 c = search needs
 
--- src/paint.rt:39:13
 slice-write-out : tie.Need-slice-write-out Inv-loop μ-loop
 slice-write-out c = search needs
 
--- src/paint.rt:41:17
 column-requires : tie.Need-column-requires Inv-loop μ-loop
 column-requires c κs = search needs
 
--- src/paint.rt:42:42
 mul-normalised : tie.Need-mul-normalised Inv-loop μ-loop
 mul-normalised c = search needs
 
--- src/paint.rt:42:42
 shared-slice-read-normalised : tie.Need-shared-slice-read-normalised Inv-loop μ-loop
 shared-slice-read-normalised c = search needs
 
--- src/paint.rt:42:31
 normalised-requires : tie.Need-normalised-requires Inv-loop μ-loop
 normalised-requires c κs = search needs
 
--- src/paint.rt:42:22
 shade-u8-requires : tie.Need-shade-u8-requires Inv-loop μ-loop
 shade-u8-requires c κs =
     let k = c .before .before in
@@ -65,19 +52,15 @@ shade-u8-requires c κs =
     let s = l .before .before .before .before .before .before .before .before .before in
     (s .pre .1 .0 .0, s .pre .1 .0 .1, subst Among (sym (k .column .ensures)) (s .pre .1 .1 .1 (l .loop .c) (omega arith)))
 
--- src/paint.rt:42:13
 slice-write-out-2 : tie.Need-slice-write-out-2 Inv-loop μ-loop
 slice-write-out-2 c = search needs
 
--- src/paint.rt:44:9
 add-c : tie.Need-add-c Inv-loop μ-loop
 add-c c = search needs
 
--- src/paint.rt:37:5
 loop-less : tie.Need-loop-less Inv-loop μ-loop
 loop-less c = search needs
 
--- src/paint.rt:37:5
 loop-again : tie.Need-loop-again Inv-loop μ-loop
 loop-again c =
     let l = c .before .before .before in
@@ -101,11 +84,9 @@ loop-again c =
        ∙ shade-on full8 work (a .y) (x i) (a .low) (a .high) (a .range) (getD ms i 0) (getD ds i nan) (w .3 .result) (w .0 .left) (w .3 .ensures))))
     (c .if1 .came)
 
--- src/paint.rt:29:1
 same-length : tie.Need-same-length Inv-loop μ-loop
 same-length c = search needs
 
--- src/paint.rt:29:1
 returns : tie.Need-returns Inv-loop μ-loop
 unfolding rowShades
 returns c =

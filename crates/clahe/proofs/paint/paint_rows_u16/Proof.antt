@@ -1,27 +1,20 @@
-use Rattle.spec.specs.Clahe.{positionOf}
-use borrow.Author.Needs.{needs}
-use Rattle.clahe.proofs.Positioned.{among, among-of}
-use Rattle.clahe.proofs.Painted.{valueAt, row-put, all-rows}
-use Rattle.clahe.proofs.Whole.{times-most, next-times}
-use Rattle.clahe.specs.Paint.{rowShades, columnAt}
-use Rattle.clahe.specs.Band.{band}
-use Rattle.clahe.specs.Work.{Among}
-use Rattle.spec.specs.Value.{full16}
-use Rattle.types.specs.declared.TilePosition.{TilePosition}
-use lib.ListN.{length, getD, take, drop, length-take, length-drop}
-use lib.Ieee.{Float, nan}
+-- `clahe::paint::paint_rows_u16` meets its contract. The invariant: the rows before r are painted. Assumes nothing.
+use mathlib.Core.Path.{_≡_, sym, ap, subst, _∙_}
+use Prim.Native.Nat.{ℕ, _+_, _-_, _*_, _≤_, _<_}
 use native.Mathlib.Nat.{mul-le-mul-right}
 use native.Mathlib.Omega.{arith}
-use Prim.Native.Nat.{ℕ, _+_, _-_, _*_, _≤_, _<_}
-use mathlib.Core.List.{List}
-use mathlib.Core.Path.{_≡_, sym, ap, subst, _∙_}
+use borrow.Author.Needs.{needs}
+use lib.ListN.{length, getD, take, drop, length-take, length-drop}
+use Rattle.spec.specs.Value.{full16}
+use Rattle.spec.specs.Clahe.{positionOf}
+use Rattle.clahe.specs.Band.{band}
+use Rattle.clahe.specs.Paint.{rowShades, columnAt}
+use Rattle.clahe.specs.Work.{Among}
+use Rattle.clahe.proofs.Painted.{valueAt, row-put, all-rows}
+use Rattle.clahe.proofs.Whole.{times-most, next-times}
+use Rattle.clahe.proofs.Positioned.{among, among-of}
 use Rattle.clahe.proofs.paint.paint_rows_u16.Statement.{statement}
 use Rattle.clahe.proofs.paint.paint_rows_u16.Tie as tie
-use Rattle.clahe.proofs.paint.paint_rows_u16.Reads as reads
-use Rattle.clahe.proofs.paint.paint_rows_u16.Lts as lts
-use Rattle.clahe.proofs.paint.paint_row_u16.Reads as paint-row-u16-reads
-use Rattle.clahe.proofs.sampling.tile_position.Reads as tile-position-reads
-use Rattle.clahe.proofs.tiles.tile_side.Reads as tile-side-reads
 
 abbrev Inv-loop : tie.InvT-loop
 Inv-loop db valid-mask rows cols low high range work positions firsts seconds weights out₀ side r₀ out r =
@@ -40,70 +33,54 @@ inside c =
     (omega (arith, next-times (l .loop .r) (a .cols), mul-le-mul-right {m = l .loop .r + 1} {n = a .rows} (a .cols) (omega arith)),
      times-most (a .rows) (a .cols) 4096 4096 (s .pre .0 .0 .tall) (s .pre .0 .0 .wide))
 
--- src/paint.rt:54:9
 tile-side-requires : tie.Need-tile-side-requires Inv-loop μ-loop
 tile-side-requires c κs = search needs
 
--- src/paint.rt:56:5
 loop-holds : tie.Need-loop-holds Inv-loop μ-loop
 loop-holds c = search needs
 
--- src/paint.rt:57:13
 tile-position-requires : tie.Need-tile-position-requires Inv-loop μ-loop
 tile-position-requires c κs = search needs
 
--- src/paint.rt:58:18
 mul-at : tie.Need-mul-at Inv-loop μ-loop
 mul-at c = omega (arith, inside c)
 
--- src/paint.rt:59:19
 add-end : tie.Need-add-end Inv-loop μ-loop
 add-end c = omega (arith, inside c)
 
--- src/paint.rt:60:22
 mul-paint-row-u16 : tie.Need-mul-paint-row-u16 Inv-loop μ-loop
 mul-paint-row-u16 c = omega (arith, inside c)
 
--- src/paint.rt:60:22
 sub-paint-row-u16 : tie.Need-sub-paint-row-u16 Inv-loop μ-loop
 sub-paint-row-u16 c = search needs
 
--- src/paint.rt:60:22
 part-paint-row-u16-start : tie.Need-part-paint-row-u16-start Inv-loop μ-loop
 part-paint-row-u16-start c = search needs
 
--- src/paint.rt:60:22
 part-paint-row-u16-end : tie.Need-part-paint-row-u16-end Inv-loop μ-loop
 part-paint-row-u16-end c = let s = c .before .before .before .before .before .before .before .before .before .before .before .before in omega (arith, inside c, s .pre .0 .0 .db-length)
 
--- src/paint.rt:60:36
 sub-paint-row-u16-2 : tie.Need-sub-paint-row-u16-2 Inv-loop μ-loop
 sub-paint-row-u16-2 c = search needs
 
--- src/paint.rt:60:36
 part-paint-row-u16-start-2 : tie.Need-part-paint-row-u16-start-2 Inv-loop μ-loop
 part-paint-row-u16-start-2 c = search needs
 
--- src/paint.rt:60:36
 part-paint-row-u16-end-2 : tie.Need-part-paint-row-u16-end-2 Inv-loop μ-loop
 part-paint-row-u16-end-2 c = let s = c .before .before .before .before .before .before .before .before .before .before .before .before .before in omega (arith, inside (c .before), s .pre .0 .0 .marks-length)
 
--- src/paint.rt:60:122
 mul-paint-row-u16-2 : tie.Need-mul-paint-row-u16-2 Inv-loop μ-loop
 mul-paint-row-u16-2 c = omega (arith, inside (c .before .before))
 
 sub-paint-row-u16-3 : tie.Need-sub-paint-row-u16-3 Inv-loop μ-loop
 sub-paint-row-u16-3 c = search needs
 
--- src/paint.rt:60:122
 part-paint-row-u16-start-3 : tie.Need-part-paint-row-u16-start-3 Inv-loop μ-loop
 part-paint-row-u16-start-3 c = search needs
 
--- src/paint.rt:60:122
 part-paint-row-u16-end-3 : tie.Need-part-paint-row-u16-end-3 Inv-loop μ-loop
 part-paint-row-u16-end-3 c = let p = c .before .before in omega (arith, inside p, p .before .before .loop .inv .1)
 
--- src/paint.rt:60:9
 paint-row-u16-requires : tie.Need-paint-row-u16-requires Inv-loop μ-loop
 paint-row-u16-requires c κs =
     let p = c .before .before .before in
@@ -118,15 +95,12 @@ paint-row-u16-requires c κs =
       (s .pre .1 .sized,
        λ k h. subst Among (sym (s .pre .1 .at k (omega (arith, h, length-take (l .loop .r * a .cols + a .cols - l .loop .r * a .cols) (drop (l .loop .r * a .cols) (a .db .now)))))) (among _ k))))
 
--- src/paint.rt:61:9
 add-r : tie.Need-add-r Inv-loop μ-loop
 add-r c = search needs
 
--- src/paint.rt:56:5
 loop-less : tie.Need-loop-less Inv-loop μ-loop
 loop-less c = search needs
 
--- src/paint.rt:56:5
 loop-again : tie.Need-loop-again Inv-loop μ-loop
 loop-again c =
     let m = c .before .before in
@@ -146,11 +120,9 @@ loop-again c =
      row-put full16 (a .work .now) (a .rows) (a .cols) (a .low) (a .high) (a .range) ms ds (s .pre .0 .0) r y x (omega arith)
      (p .tile-position .ensures ∙ ap (λ (n : ℕ). positionOf n r) (l .before .tile-side .ensures)) (s .pre .1 .at) (l .loop .out) _ _ (l .loop .inv .1) new (l .loop .inv .2))
 
--- src/paint.rt:49:1
 same-length : tie.Need-same-length Inv-loop μ-loop
 same-length c = search needs
 
--- src/paint.rt:49:1
 returns : tie.Need-returns Inv-loop μ-loop
 returns c =
     let l = c .before in

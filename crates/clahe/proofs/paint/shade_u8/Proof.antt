@@ -1,47 +1,35 @@
+-- `clahe::paint::shade_u8` meets its contract: a value held to 0..1 and scaled lies between 0 and the scale. Assumes nothing.
+use mathlib.Core.Path.{sym, ap, subst, _∙_}
+use native.Mathlib.Omega.{arith}
+use borrow.Author.Needs.{needs}
+use lib.Dec.{T}
+use lib.Ieee.{Float, binary64, mul, le, toUnsigned}
+use Rattle.spec.specs.Floats.{zero64}
+use Rattle.spec.specs.Value.{full8, full16}
 use Rattle.clahe.proofs.Shades.{most8, shade-of}
 use Rattle.clahe.proofs.Scaled.{low8, high8-16}
-use Rattle.spec.specs.Value.{full8, full16}
-use Rattle.spec.specs.Floats.{zero64}
-use lib.Ieee.{Float, binary64, mul, le, toUnsigned}
-use lib.Dec.{T}
-use native.Mathlib.Omega.{arith}
-use Prim.Native.Nat.{ℕ, _≤_}
-use mathlib.Core.Path.{sym, ap, subst, _∙_}
-use borrow.Author.Needs.{needs}
-use Rattle.clahe.proofs.paint.shade_u8.Statement.{statement}
 use Rattle.clahe.proofs.paint.shade_u8.Tie as tie
-use Rattle.clahe.proofs.paint.shade_u8.Reads as reads
-use Rattle.clahe.proofs.paint.shade_u8.Lts as lts
-use Rattle.clahe.proofs.counts.level_of.Reads as level-of-reads
-use Rattle.clahe.proofs.sampling.sample.Reads as sample-reads
-use Rattle.numeric.proofs.clamp_f64.Reads as clamp-f64-reads
-use Rattle.numeric.proofs.trunc_small.Reads as trunc-small-reads
+use Rattle.clahe.proofs.paint.shade_u8.Statement.{statement}
 
--- src/paint.rt:24:53
 level-of-requires : tie.Need-level-of-requires
 level-of-requires c κs = search needs
 
--- src/paint.rt:24:34
 sample-requires : tie.Need-sample-requires
 sample-requires c κs = search needs
 
--- src/paint.rt:24:9
 clamp-f64-requires : tie.Need-clamp-f64-requires
 clamp-f64-requires c κs = search needs
 
--- src/paint.rt:25:5
 trunc-small-requires : tie.Need-trunc-small-requires
 trunc-small-requires c κs =
     let e = sym (c .clamp-f64 .ensures) in
     (subst (λ (x : Float). T (le zero64 (mul binary64 x full8))) e (low8 _), subst (λ (x : Float). T (le (mul binary64 x full8) full16)) e (high8-16 _))
 
--- src/paint.rt:25:5
 cast-result : tie.Need-cast-result
 cast-result c =
     let s = c .before .before .sample .result in
     omega (arith, most8 s, c .trunc-small .ensures ∙ ap (λ (x : Float). toUnsigned 64 (mul binary64 x full8)) (c .before .clamp-f64 .ensures))
 
--- src/paint.rt:20:1
 returns : tie.Need-returns
 returns c =
     let m = c .before in

@@ -1,14 +1,13 @@
-use borrow.Author.Needs.{needs}
-use Rattle.clahe.proofs.Totals.{sum-next, sum-end}
-use Rattle.spec.specs.Lists.{sumOf}
-use lib.ListN.{length, drop, getD}
+-- `clahe::sums::total` meets its contract. The invariant: the sum so far and that of what is left are the whole. Assumes nothing.
+use mathlib.Core.Path.{_≡_}
+use Prim.Native.Nat.{_+_, _-_, _*_, _^_, _≤_}
 use native.Mathlib.Omega.{arith}
-use Prim.Native.Nat.{ℕ, _+_, _-_, _*_, _^_, _≤_, _<_}
-use mathlib.Core.Path.{_≡_, refl, _∙_, sym}
+use borrow.Author.Needs.{needs}
+use lib.ListN.{drop}
+use Rattle.spec.specs.Lists.{sumOf}
+use Rattle.clahe.proofs.Totals.{sum-next, sum-end}
 use Rattle.clahe.proofs.sums.total.Statement.{statement}
 use Rattle.clahe.proofs.sums.total.Tie as tie
-use Rattle.clahe.proofs.sums.total.Reads as reads
-use Rattle.clahe.proofs.sums.total.Lts as lts
 
 abbrev Inv-loop : tie.InvT-loop
 Inv-loop hist sum₀ b₀ sum b = (b ≤ 256) × (sum ≤ b * 2 ^ 32) × (sumOf hist ≡ sum + sumOf (drop b hist))
@@ -16,42 +15,33 @@ Inv-loop hist sum₀ b₀ sum b = (b ≤ 256) × (sum ≤ b * 2 ^ 32) × (sumOf 
 abbrev μ-loop : tie.MeasureT-loop
 μ-loop hist sum₀ b₀ sum b = 256 - b
 
--- src/sums.rt:18:5
 loop-holds : tie.Need-loop-holds Inv-loop μ-loop
 loop-holds c = (omega arith, omega arith, omega arith)
 
--- src/sums.rt:19:16
 mul-sum : tie.Need-mul-sum Inv-loop μ-loop
 mul-sum c = search needs
 
--- src/sums.rt:19:16
 shared-slice-read-sum : tie.Need-shared-slice-read-sum Inv-loop μ-loop
 shared-slice-read-sum c = search needs
 
--- src/sums.rt:19:16
 cast-sum : tie.Need-cast-sum Inv-loop μ-loop
 cast-sum c = omega (arith, c .shared-slice-known .given (c .before .before .loop .b))
 
--- src/sums.rt:19:9
 add-sum : tie.Need-add-sum Inv-loop μ-loop
 add-sum c = omega (arith, c .shared-slice-known .given (c .before .before .loop .b))
 
--- src/sums.rt:20:9
 add-b : tie.Need-add-b Inv-loop μ-loop
 add-b c = search needs
 
--- src/sums.rt:18:5
 loop-less : tie.Need-loop-less Inv-loop μ-loop
 loop-less c = search needs
 
--- src/sums.rt:18:5
 loop-again : tie.Need-loop-again Inv-loop μ-loop
 loop-again c =
     let l = c .before .before in
     let hs = l .before .args .hist .now in
     (omega arith, omega (arith, c .shared-slice-known .given (l .loop .b)), omega (arith, sum-next hs (l .loop .b) (omega arith)))
 
--- src/sums.rt:12:1
 returns : tie.Need-returns Inv-loop μ-loop
 returns c = let hs = c .before .before .args .hist .now in (omega (arith, sum-end hs (c .before .loop .b) (omega arith)), omega arith)
 

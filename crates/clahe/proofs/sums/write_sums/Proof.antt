@@ -1,24 +1,19 @@
-use borrow.Author.Needs.{needs}
-use Rattle.clahe.proofs.Cells.{kept-or-stored, from-places}
-use Rattle.clahe.proofs.Totals.{sum-take, sum-at}
-use Rattle.clahe.proofs.Whole.{in-float}
-use Rattle.spec.specs.Clahe.{sumAt}
-use Rattle.spec.specs.Lists.{sumOf}
-use Rattle.spec.specs.Floats.{one64, ofCount, larger}
-use lib.Ieee.{Float, nan}
-use lib.ListN.{length, getD, take, length-set}
+-- `clahe::sums::write_sums` meets its contract. The invariant: the sums before b are written, and the sum so far is that of the bins before b. Assumes nothing.
+use mathlib.Core.Path.{_≡_, refl, ap, sym, _∙_}
+use Prim.Native.Nat.{ℕ, suc, _+_, _-_, _*_, _^_, _≤_, _<_}
 use native.Mathlib.Numerals.{add-one}
 use native.Mathlib.Omega.{arith}
-use Prim.Native.Nat.{ℕ, suc, _+_, _-_, _*_, _^_, _≤_, _<_}
-use mathlib.Core.List.{map}
-use mathlib.Core.Path.{_≡_, refl, ap, sym, _∙_}
+use borrow.Author.Needs.{needs}
+use lib.ListN.{length, getD, take, length-set}
+use lib.Ieee.{nan}
+use Rattle.spec.specs.Floats.{one64, ofCount, larger}
+use Rattle.spec.specs.Clahe.{sumAt}
+use Rattle.spec.specs.Lists.{sumOf}
+use Rattle.clahe.proofs.Totals.{sum-take, sum-at}
+use Rattle.clahe.proofs.Whole.{in-float}
+use Rattle.clahe.proofs.Cells.{kept-or-stored, from-places}
 use Rattle.clahe.proofs.sums.write_sums.Statement.{statement}
 use Rattle.clahe.proofs.sums.write_sums.Tie as tie
-use Rattle.clahe.proofs.sums.write_sums.Reads as reads
-use Rattle.clahe.proofs.sums.write_sums.Lts as lts
-use Rattle.clahe.proofs.sums.part.Reads as part-reads
-use Rattle.clahe.proofs.sums.total.Reads as total-reads
-use Rattle.numeric.proofs.max_f64.Reads as max-f64-reads
 
 abbrev Inv-loop : tie.InvT-loop
 Inv-loop hist sums₀ whole sum₀ b₀ sums sum b =
@@ -28,60 +23,46 @@ Inv-loop hist sums₀ whole sum₀ b₀ sums sum b =
 abbrev μ-loop : tie.MeasureT-loop
 μ-loop hist sums₀ whole sum₀ b₀ sums sum b = 256 - b
 
--- src/sums.rt:38:34
 total-requires : tie.Need-total-requires Inv-loop μ-loop
 total-requires c κs = search needs
 
--- src/sums.rt:38:34
 int-to-float-max-f64 : tie.Need-int-to-float-max-f64 Inv-loop μ-loop
 int-to-float-max-f64 c = in-float (c .before .total .result) (omega arith)
 
--- src/sums.rt:38:9
 max-f64-requires : tie.Need-max-f64-requires Inv-loop μ-loop
 max-f64-requires c κs = search needs
 
--- src/sums.rt:41:5
 loop-holds : tie.Need-loop-holds Inv-loop μ-loop
 unfolding sumOf
 loop-holds c = (omega arith, omega arith, omega arith, refl, λ k h. absurd (omega arith))
 
--- src/sums.rt:42:16
 mul-sum : tie.Need-mul-sum Inv-loop μ-loop
 mul-sum c = search needs
 
--- src/sums.rt:42:16
 shared-slice-read-sum : tie.Need-shared-slice-read-sum Inv-loop μ-loop
 shared-slice-read-sum c = search needs
 
--- src/sums.rt:42:16
 cast-sum : tie.Need-cast-sum Inv-loop μ-loop
 cast-sum c = omega (arith, c .shared-slice-known2 .given (c .before .before .loop .b))
 
--- src/sums.rt:42:9
 add-sum : tie.Need-add-sum Inv-loop μ-loop
 add-sum c = omega (arith, c .shared-slice-known2 .given (c .before .before .loop .b))
 
--- src/sums.rt:43:19
 part-requires : tie.Need-part-requires Inv-loop μ-loop
 part-requires c κs = omega (arith, c .shared-slice-known2 .given (c .before .before .loop .b))
 
--- src/sums.rt:43:9
 mul-sums : tie.Need-mul-sums Inv-loop μ-loop
 mul-sums c = search needs
 
--- src/sums.rt:43:9
 slice-write-sums : tie.Need-slice-write-sums Inv-loop μ-loop
 slice-write-sums c = search needs
 
--- src/sums.rt:44:9
 add-b : tie.Need-add-b Inv-loop μ-loop
 add-b c = search needs
 
--- src/sums.rt:41:5
 loop-less : tie.Need-loop-less Inv-loop μ-loop
 loop-less c = search needs
 
--- src/sums.rt:41:5
 loop-again : tie.Need-loop-again Inv-loop μ-loop
 loop-again c =
     let l = c .before .before .before in
@@ -94,11 +75,9 @@ loop-again c =
      (sum-at hs b (l .loop .sum + getD hs b 0) _ _ (sym next)
        (m .max-f64 .ensures ∙ ap (λ (n : ℕ). larger (ofCount n) one64) (m .before .before .total .ensures .0)) (c .part .ensures)))
 
--- src/sums.rt:34:1
 same-length : tie.Need-same-length Inv-loop μ-loop
 same-length c = search needs
 
--- src/sums.rt:34:1
 returns : tie.Need-returns Inv-loop μ-loop
 returns c =
     let l = c .before in

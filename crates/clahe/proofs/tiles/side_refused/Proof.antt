@@ -1,23 +1,18 @@
-use Rattle.spec.specs.Refusals.{badSide}
-use lib.Dec.{ltb}
-use Prim.Native.Nat.{ℕ, _*_}
+-- `clahe::tiles::side_refused` meets its contract. Assumes nothing.
 use mathlib.Core.Path.{ap}
+use Prim.Native.Nat.{ℕ, _*_}
 use borrow.Author.Needs.{needs}
-use Rattle.clahe.proofs.tiles.side_refused.Statement.{statement}
+use lib.Dec.{ltb}
+use Rattle.spec.specs.Refusals.{badSide}
 use Rattle.clahe.proofs.tiles.side_refused.Tie as tie
-use Rattle.clahe.proofs.tiles.side_refused.Reads as reads
-use Rattle.clahe.proofs.tiles.side_refused.Lts as lts
-use Rattle.clahe.proofs.tiles.tile_side.Reads as tile-side-reads
+use Rattle.clahe.proofs.tiles.side_refused.Statement.{statement}
 
--- src/tiles.rt:44:9
 tile-side-requires : tie.Need-tile-side-requires
 tile-side-requires c κs = search needs
 
--- src/tiles.rt:44:5
 mul-result : tie.Need-mul-result
 mul-result c = search needs
 
--- src/tiles.rt:40:1
 returns : tie.Need-returns
 unfolding badSide
 returns c = ap (λ (m : ℕ). ltb (c .before .args .s) (7 * m)) (c .tile-side .ensures)

@@ -1,0 +1,216 @@
+-- The ends of a window are finite and within 100,000, and its range is at least 1. Assumes nothing.
+use mathlib.Core.Path.{_≡_}
+use mathlib.Core.Bool.{Bool, true, false, cond}
+use Prim.Native.Nat.{ℕ, _^_, _≤_}
+use mathlib.Core.List.{List}
+use lib.ListN.{length}
+use lib.Dec.{T, eqb, lit≤}
+use lib.Ieee.{Float, binary64, add, sub, mul, div, lt, le, ofBits, fits}
+use Rattle.types.specs.declared.AutoscaleStrategy.{AutoscaleStrategy}
+use Rattle.types.specs.declared.AutoscaleStrategy.the-variants.{Standard, Robust, Adaptive, Equalized, Clahe, Tamed, Default}
+use Rattle.types.specs.declared.Clip.{Clip}
+use Rattle.types.specs.declared.HistogramStats.{HistogramStats}
+use Rattle.spec.specs.Floats.{zero64, half64, one64, two64, larger, magnitude}
+use Rattle.spec.specs.Window.{between, inside, narrow, outlier, heavy, wide, normal, standard, robust, skewOf, tailOf, adaptive, tamed, chosen, opened, windowOf, pictureWindow, gamma08, gamma09, gamma11}
+use Rattle.types.specs.declared.WindowAnswer.{WindowAnswer}
+use Rattle.types.specs.declared.WindowAnswer.the-variants.{Window, Blank, Refused}
+use Rattle.spec.specs.Strategies.{isTamed}
+use Rattle.spec.specs.Pixels.{pixels}
+use Rattle.spec.specs.Refusals.{badDecibel}
+use Rattle.spec.specs.Statistics.{statisticsOf}
+use Rattle.histogram.proofs.Bounds.{Bounded, statistics-bounded}
+use Rattle.histogram.proofs.Welford.{Each}
+use Rattle.numeric.proofs.Order.{Number}
+use Rattle.numeric.proofs.Picks.{above-larger}
+use Rattle.numeric.proofs.Within.{Within, within-lit, within-weaken, add-within, sub-within, mul-within, div-one-within, larger-within, smaller-within}
+
+-- both ends of a clip
+pub record Limited (n : ℕ) (c : Clip) : Type 0 where
+  pub low-within : Within n (c .low)
+  pub high-within : Within n (c .high)
+
+either : (n : ℕ) (b : Bool) (c d : Clip) → Limited n c → Limited n d → Limited n (cond b c d)
+either n true c d p q = p
+either n false c d p q = q
+
+two-within : Within 2 two64
+unfolding ofBits
+two-within = within-lit 2 two64 tt
+
+half-of : (n : ℕ) → n ≤ 2 ^ 53 → (x : Float) → Within n x → Within n (div binary64 x two64)
+unfolding ofBits le
+half-of n h x w = div-one-within binary64 n h x two64 w tt tt
+
+-- the constants of the rules
+twenty : Within 2000 (ofBits binary64 0x4034_0000_0000_0000)
+unfolding ofBits
+twenty = within-lit 2000 (ofBits binary64 0x4034_0000_0000_0000) tt
+
+eight-tenths : Within 1 (ofBits binary64 0x3fe9_9999_9999_999a)
+unfolding ofBits
+eight-tenths = within-lit 1 (ofBits binary64 0x3fe9_9999_9999_999a) tt
+
+two-and-half : Within 3 (ofBits binary64 0x4004_0000_0000_0000)
+unfolding ofBits
+two-and-half = within-lit 3 (ofBits binary64 0x4004_0000_0000_0000) tt
+
+hundredths : Within 1 (ofBits binary64 0x3f94_7ae1_47ae_147b)
+unfolding ofBits
+hundredths = within-lit 1 (ofBits binary64 0x3f94_7ae1_47ae_147b) tt
+
+module _ (s : HistogramStats) (b : Bounded s) where
+  abbrev spread : Float
+  spread = sub binary64 (s .«max_db») (s .«min_db»)
+
+  abbrev iqr : Float
+  iqr = sub binary64 (s .p75) (s .p25)
+
+  spread-within : Within 2000 spread
+  spread-within = sub-within binary64 1000 1000 (lit≤ tt) (s .«max_db») (s .«min_db») (b .greatest) (b .least)
+
+  iqr-within : Within 10192 iqr
+  iqr-within = sub-within binary64 5096 5096 (lit≤ tt) (s .p75) (s .p25) (b .percentiles .p75) (b .percentiles .p25)
+
+  reach-within : Within 30576 (outlier iqr)
+  unfolding outlier
+  reach-within = mul-within binary64 3 10192 (lit≤ tt) (ofBits binary64 0x4004_0000_0000_0000) iqr two-and-half iqr-within
+
+  least-within : Within 35672 (s .«min_db»)
+  least-within = within-weaken (s .«min_db») (lit≤ tt) (b .least)
+
+  greatest-within : Within 35672 (s .«max_db»)
+  greatest-within = within-weaken (s .«max_db») (lit≤ tt) (b .greatest)
+
+  wider : (x : Float) → Within 5096 x → Within 35672 x
+  wider x w = within-weaken x (lit≤ tt) w
+
+  inside-limited : (low high gamma : Float) → Within 35672 low → Within 35672 high → Limited 35672 (inside s low high gamma)
+  unfolding inside
+  inside-limited low high gamma p q = record { low-within = larger-within low (s .«min_db») p least-within; high-within = smaller-within high (s .«max_db») q greatest-within }
+
+  narrow-limited : Limited 35672 (narrow s spread)
+  unfolding narrow
+  narrow-limited =
+      let r = larger (ofBits binary64 0x4034_0000_0000_0000) (mul binary64 spread (ofBits binary64 0x3fe9_9999_9999_999a)) in
+      let w : Within 2000 r = larger-within (ofBits binary64 0x4034_0000_0000_0000) (mul binary64 spread (ofBits binary64 0x3fe9_9999_9999_999a)) twenty
+      (mul-within binary64 2000 1 (lit≤ tt) spread (ofBits binary64 0x3fe9_9999_9999_999a) spread-within eight-tenths) in
+      let h = half-of 2000 (lit≤ tt) r w in
+      inside-limited _ _ _
+      (within-weaken _ (lit≤ tt) (sub-within binary64 5096 2000 (lit≤ tt) (s .«median_db») (div binary64 r two64) (b .percentiles .median) h))
+      (within-weaken _ (lit≤ tt) (add-within binary64 5096 2000 (lit≤ tt) (s .«median_db») (div binary64 r two64) (b .percentiles .median) h))
+
+  heavy-limited : Limited 35672 (heavy s iqr)
+  unfolding heavy
+  heavy-limited =
+      inside-limited _ _ _
+      (sub-within binary64 5096 30576 (lit≤ tt) (s .p25) (outlier iqr) (b .percentiles .p25) reach-within)
+      (add-within binary64 5096 30576 (lit≤ tt) (s .p75) (outlier iqr) (b .percentiles .p75) reach-within)
+
+  wide-limited : Limited 35672 (wide s spread)
+  unfolding wide
+  wide-limited =
+      let margin = mul binary64 (ofBits binary64 0x3f94_7ae1_47ae_147b) spread in
+      let m : Within 2000 margin = mul-within binary64 1 2000 (lit≤ tt) (ofBits binary64 0x3f94_7ae1_47ae_147b) spread hundredths spread-within in
+      inside-limited _ _ _
+      (larger-within (s .p02) (add binary64 (s .«min_db») margin) (wider (s .p02) (b .percentiles .p02)) (within-weaken _ (lit≤ tt) (add-within binary64 1000 2000 (lit≤ tt) (s .«min_db») margin (b .least) m)))
+      (smaller-within (s .p98) (sub binary64 (s .«max_db») margin) (wider (s .p98) (b .percentiles .p98)) (within-weaken _ (lit≤ tt) (sub-within binary64 1000 2000 (lit≤ tt) (s .«max_db») margin (b .greatest) m)))
+
+  normal-limited : Limited 35672 (normal s)
+  unfolding normal
+  normal-limited = inside-limited (s .p02) (s .p98) one64 (wider (s .p02) (b .percentiles .p02)) (wider (s .p98) (b .percentiles .p98))
+
+  standard-limited : Limited 35672 (standard s)
+  unfolding standard
+  standard-limited =
+      either 35672 (lt spread (ofBits binary64 0x402e_0000_0000_0000)) _ _ narrow-limited (either 35672 (lt iqr (ofBits binary64 0x4014_0000_0000_0000)) _ _ heavy-limited
+      (either 35672 (lt (ofBits binary64 0x4044_0000_0000_0000) spread) _ _ wide-limited normal-limited))
+
+  robust-limited : Limited 35672 (robust s)
+  unfolding robust
+  robust-limited =
+      record {
+        low-within = larger-within _ (s .«min_db») (larger-within _ (s .p01) (sub-within binary64 5096 30576 (lit≤ tt) (s .p25) (outlier iqr) (b .percentiles .p25) reach-within) (wider (s .p01) (b .percentiles .p01))) least-within;
+        high-within = smaller-within _ (s .«max_db») (smaller-within _ (s .p99) (add-within binary64 5096 30576 (lit≤ tt) (s .p75) (outlier iqr) (b .percentiles .p75) reach-within) (wider (s .p99) (b .percentiles .p99))) greatest-within;
+      }
+
+  ends-limited : (low high gamma : Float) → Within 5096 low → Within 5096 high → Limited 35672 (between low high gamma)
+  ends-limited low high gamma p q = record { low-within = wider low p; high-within = wider high q }
+
+  adaptive-limited : Limited 35672 (adaptive s)
+  unfolding adaptive
+  adaptive-limited =
+      either 35672 (lt half64 (magnitude (skewOf s))) _ _
+      (either 35672 (lt zero64 (skewOf s)) _ _ (ends-limited _ _ gamma09 (b .percentiles .p02) (b .percentiles .p98)) (ends-limited _ _ gamma11 (b .percentiles .p05) (b .percentiles .p95)))
+      (either 35672 (lt two64 (tailOf s)) _ _ (ends-limited _ _ gamma08 (b .percentiles .p10) (b .percentiles .p90)) (ends-limited _ _ one64 (b .percentiles .p05) (b .percentiles .p95)))
+
+  pub chosen-limited : (strategy : AutoscaleStrategy) → Limited 35672 (chosen strategy s)
+  unfolding chosen
+  chosen-limited Standard = standard-limited
+  chosen-limited Robust = robust-limited
+  chosen-limited Adaptive = adaptive-limited
+  chosen-limited Equalized = ends-limited _ _ one64 (b .percentiles .p01) (b .percentiles .p99)
+  chosen-limited Clahe = ends-limited _ _ one64 (b .percentiles .p01) (b .percentiles .p99)
+  chosen-limited Tamed = ends-limited _ _ one64 (b .percentiles .p25) (b .percentiles .p99)
+  chosen-limited Default = ends-limited _ _ one64 (b .percentiles .p05) (b .percentiles .p95)
+
+  pub tamed-limited : (copol : Bool) → Limited 35672 (tamed copol s)
+  unfolding tamed
+  tamed-limited true = ends-limited _ _ one64 (smaller-within (s .p02) (s .p05) (b .percentiles .p02) (b .percentiles .p05)) (b .percentiles .p99)
+  tamed-limited false = ends-limited _ _ one64 (b .percentiles .p05) (b .percentiles .p99)
+
+-- ---- the windows
+
+-- low and high are within 100,000, range is within 200,000 and at least 1
+pub record WindowLimits (low high range : Float) : Type 0 where
+  pub low-finite : Within 100000 low
+  pub high-finite : Within 100000 high
+  pub range-finite : Within 200000 range
+  pub range-one : T (le one64 range)
+
+-- of every window; a blank one and a refusal have no floats
+abbrev pub Limits : WindowAnswer → Type 0
+Limits (Window low high range gamma) = WindowLimits low high range
+Limits Blank = Unit
+Limits (Refused k) = Unit
+
+one-number : Number one64
+unfolding ofBits
+one-number = tt
+
+one-within : Within 71344 one64
+unfolding ofBits
+one-within = within-lit 71344 one64 tt
+
+limited-window : (c : Clip) → Limited 35672 c → Limits (opened c)
+unfolding opened
+limited-window c l =
+    record {
+      low-finite = within-weaken (c .low) (lit≤ tt) (l .low-within);
+      high-finite = within-weaken (c .high) (lit≤ tt) (l .high-within);
+      range-finite =
+          within-weaken (larger (sub binary64 (c .high) (c .low)) one64) (lit≤ tt)
+          (larger-within (sub binary64 (c .high) (c .low)) one64 (sub-within binary64 35672 35672 (lit≤ tt) (c .high) (c .low) (l .high-within) (l .low-within)) one-within);
+      range-one = above-larger (sub binary64 (c .high) (c .low)) one64 one-number;
+    }
+
+blank-or : (b : Bool) (w : WindowAnswer) → Limits w → Limits (cond b Blank w)
+blank-or true w o = tt
+blank-or false w o = o
+
+pub window-limits : (strategy : AutoscaleStrategy) (s : HistogramStats) → Bounded s → Limits (windowOf strategy s)
+unfolding windowOf
+window-limits strategy s b = blank-or (eqb (s .«valid_count») 0) (opened (chosen strategy s)) (limited-window (chosen strategy s) (chosen-limited s b strategy))
+
+pub picture-limits : (strategy : AutoscaleStrategy) (copol : Bool) (s : HistogramStats) → Bounded s → Limits (pictureWindow strategy copol s)
+unfolding pictureWindow
+picture-limits strategy copol s b =
+    let c = cond (isTamed strategy) (tamed copol s) (chosen strategy s) in
+    blank-or (eqb (s .«valid_count») 0) (opened c) (limited-window c (either 35672 (isTamed strategy) _ _ (tamed-limited s b copol) (chosen-limited s b strategy)))
+
+-- ---- an accepted band: at most 16,777,216 f64s, the valid ones within 1,000
+module _ (m : List ℕ) (d : List Float) (l : length d ≤ 16777216) (f : Each (λ v. T (fits binary64 v)) d) (e : badDecibel (pixels m d) ≡ false) where
+  pub accepted-window : (strategy : AutoscaleStrategy) → Limits (windowOf strategy (statisticsOf (pixels m d)))
+  accepted-window strategy = window-limits strategy (statisticsOf (pixels m d)) (statistics-bounded m d l f e)
+
+  pub accepted-picture-window : (strategy : AutoscaleStrategy) (copol : Bool) → Limits (pictureWindow strategy copol (statisticsOf (pixels m d)))
+  accepted-picture-window strategy copol = picture-limits strategy copol (statisticsOf (pixels m d)) (statistics-bounded m d l f e)

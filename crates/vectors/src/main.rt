@@ -1,0 +1,710 @@
+// Replays the stored vectors: each record of a file names a call, what it is lent and what it must answer and leave. Prints for each file
+// how many records it has and how many differ. The record format is in oracle/README.md.
+ghost use mathlib.Core.Path.{_≡_};
+ghost use Prim.Native.Nat.{_≤_};
+ghost use lib.ListN.{length};
+use libc::STDOUT_FILENO;
+use types::AutoscaleStrategy;
+use types::HistogramStats;
+use types::Reply;
+use types::StatisticsAnswer;
+use types::SyntheticRgbMode;
+
+// ---- the numbers of a record; 0 beyond its end
+
+fn byte_at(b: &[u8], at: usize) -> u8 {
+    if at < b.len() { b[at] } else { 0 }
+}
+
+fn u16_at(b: &[u8], at: usize) -> u16 {
+    let low = byte_at(b, at) as u16;
+    let high = byte_at(b, std::num::wrapping_add_usize(at, 1)) as u16;
+    low + high * 256
+}
+
+fn u32_at(b: &[u8], at: usize) -> u32 {
+    let low = u16_at(b, at) as u32;
+    let high = u16_at(b, std::num::wrapping_add_usize(at, 2)) as u32;
+    low + high * 65536
+}
+
+fn u64_at(b: &[u8], at: usize) -> u64 {
+    let low = u32_at(b, at) as u64;
+    let high = u32_at(b, std::num::wrapping_add_usize(at, 4)) as u64;
+    low + high * 4294967296
+}
+
+fn op_of(b: &[u8]) -> u8 {
+    byte_at(b, 0)
+}
+
+fn rows_of(b: &[u8]) -> usize {
+    u32_at(b, 4) as usize
+}
+
+fn cols_of(b: &[u8]) -> usize {
+    u32_at(b, 8) as usize
+}
+
+fn strategy_of(b: &[u8]) -> AutoscaleStrategy {
+    match byte_at(b, 1) {
+        0 => AutoscaleStrategy::Standard,
+        1 => AutoscaleStrategy::Robust,
+        2 => AutoscaleStrategy::Adaptive,
+        3 => AutoscaleStrategy::Equalized,
+        4 => AutoscaleStrategy::Clahe,
+        5 => AutoscaleStrategy::Tamed,
+        _ => AutoscaleStrategy::Default,
+    }
+}
+
+fn mode_of(b: &[u8]) -> SyntheticRgbMode {
+    match byte_at(b, 2) {
+        0 => SyntheticRgbMode::Default,
+        1 => SyntheticRgbMode::RgbRatio,
+        2 => SyntheticRgbMode::SarUrban,
+        _ => SyntheticRgbMode::Enhanced,
+    }
+}
+
+// Whether the reply is the one that the record expects.
+fn is_reply(b: &[u8], reply: Reply) -> bool {
+    let expected = byte_at(b, 3);
+    match reply {
+        Reply::Done => expected == 0,
+        Reply::Refused(k) => expected == k,
+    }
+}
+
+// ---- the lists of a record
+
+// How many bytes an element has, how many elements there are, where the first begins and where the next list does.
+struct List {
+    width: u8,
+    count: usize,
+    start: usize,
+    next: usize,
+}
+
+// The bytes of a number of elements: 1, 2, 4 or 8 each.
+fn size_of(count: usize, width: u8) -> usize
+    requires { ⌜ count ≤ 4096 ⌝ }
+{
+    match width {
+        8 => count * 8,
+        4 => count * 4,
+        2 => count * 2,
+        _ => count,
+    }
+}
+
+// How many elements a list has; none if it names more than 4,096.
+fn count_of(named: u32) -> usize
+    ensures { λ r. ⌜ r ≤ 4096 ⌝ }
+{
+    if named <= 4096 { named as usize } else { 0 }
+}
+
+fn list_at(b: &[u8], at: usize) -> List
+    ensures { λ r. ⌜ r .count ≤ 4096 ⌝ }
+{
+    let width = byte_at(b, at);
+    let count = count_of(u32_at(b, std::num::wrapping_add_usize(at, 1)));
+    let start = std::num::wrapping_add_usize(at, 5);
+    List {
+        width,
+        count,
+        start,
+        next: std::num::wrapping_add_usize(start, size_of(count, width)),
+    }
+}
+
+fn first_list(b: &[u8]) -> List
+    ensures { λ r. ⌜ r .count ≤ 4096 ⌝ }
+{
+    list_at(b, 13)
+}
+
+fn list_after(b: &[u8], list: List) -> List
+    ensures { λ r. ⌜ r .count ≤ 4096 ⌝ }
+{
+    list_at(b, list.next)
+}
+
+// Whether the record ends where its last list does.
+fn is_last(b: &[u8], list: List) -> bool {
+    list.next == b.len()
+}
+
+// ---- the elements of a list
+
+fn place(list: List, i: usize) -> usize
+    requires { ⌜ i ≤ 4096 ⌝ }
+{
+    std::num::wrapping_add_usize(list.start, size_of(i, list.width))
+}
+
+fn u8_of(b: &[u8], list: List, i: usize) -> u8
+    requires { ⌜ i ≤ 4096 ⌝ }
+{
+    byte_at(b, place(list, i))
+}
+
+fn u16_of(b: &[u8], list: List, i: usize) -> u16
+    requires { ⌜ i ≤ 4096 ⌝ }
+{
+    u16_at(b, place(list, i))
+}
+
+fn u32_of(b: &[u8], list: List, i: usize) -> u32
+    requires { ⌜ i ≤ 4096 ⌝ }
+{
+    u32_at(b, place(list, i))
+}
+
+fn u64_of(b: &[u8], list: List, i: usize) -> u64
+    requires { ⌜ i ≤ 4096 ⌝ }
+{
+    u64_at(b, place(list, i))
+}
+
+fn f32_of(b: &[u8], list: List, i: usize) -> f32
+    requires { ⌜ i ≤ 4096 ⌝ }
+{
+    numeric::f32_from_bits(u32_of(b, list, i))
+}
+
+fn f64_of(b: &[u8], list: List, i: usize) -> f64
+    requires { ⌜ i ≤ 4096 ⌝ }
+{
+    numeric::f64_from_bits(u64_of(b, list, i))
+}
+
+// A whole number of any width.
+fn whole_of(b: &[u8], list: List, i: usize) -> u64
+    requires { ⌜ i ≤ 4096 ⌝ }
+{
+    let width = list.width;
+    match width {
+        8 => u64_of(b, list, i),
+        4 => u32_of(b, list, i) as u64,
+        2 => u16_of(b, list, i) as u64,
+        _ => u8_of(b, list, i) as u64,
+    }
+}
+
+// ---- lists read into arrays
+
+fn read_u8(b: &[u8], list: List, to: &mut [u8])
+    requires { ⌜ (list .count ≤ 4096) × (length (now to) ≡ 4096) ⌝ }
+{
+    let n = list.count;
+    let mut i: usize = 0;
+    while i < n {
+        to[i] = u8_of(b, list, i);
+        i += 1;
+    }
+}
+
+fn read_u16(b: &[u8], list: List, to: &mut [u16])
+    requires { ⌜ (list .count ≤ 4096) × (length (now to) ≡ 4096) ⌝ }
+{
+    let n = list.count;
+    let mut i: usize = 0;
+    while i < n {
+        to[i] = u16_of(b, list, i);
+        i += 1;
+    }
+}
+
+fn read_f32(b: &[u8], list: List, to: &mut [f32])
+    requires { ⌜ (list .count ≤ 4096) × (length (now to) ≡ 4096) ⌝ }
+{
+    let n = list.count;
+    let mut i: usize = 0;
+    while i < n {
+        to[i] = f32_of(b, list, i);
+        i += 1;
+    }
+}
+
+fn read_f64(b: &[u8], list: List, to: &mut [f64])
+    requires { ⌜ (list .count ≤ 4096) × (length (now to) ≡ 4096) ⌝ }
+{
+    let n = list.count;
+    let mut i: usize = 0;
+    while i < n {
+        to[i] = f64_of(b, list, i);
+        i += 1;
+    }
+}
+
+// ---- comparing with a list of the record
+
+// Equal to the bit; all NaNs count as equal.
+fn same_bits_f64(a: f64, b: f64) -> bool {
+    if a != a {
+        return b != b;
+    }
+    if a == 0.0 {
+        if b == 0.0 {
+            return 1.0 / a == 1.0 / b;
+        }
+    }
+    a == b
+}
+
+fn same_bits_f32(a: f32, b: f32) -> bool {
+    if a != a {
+        return b != b;
+    }
+    if a == 0.0 {
+        if b == 0.0 {
+            return 1.0 / a == 1.0 / b;
+        }
+    }
+    a == b
+}
+
+fn is_u8(b: &[u8], list: List, found: &[u8; 4096]) -> bool
+    requires { ⌜ list .count ≤ 4096 ⌝ }
+{
+    let n = list.count;
+    let mut i: usize = 0;
+    while i < n {
+        if u8_of(b, list, i) != found[i] {
+            return false;
+        }
+        i += 1;
+    }
+    true
+}
+
+fn is_u16(b: &[u8], list: List, found: &[u16; 4096]) -> bool
+    requires { ⌜ list .count ≤ 4096 ⌝ }
+{
+    let n = list.count;
+    let mut i: usize = 0;
+    while i < n {
+        if u16_of(b, list, i) != found[i] {
+            return false;
+        }
+        i += 1;
+    }
+    true
+}
+
+fn is_f32(b: &[u8], list: List, found: &[f32; 4096]) -> bool
+    requires { ⌜ list .count ≤ 4096 ⌝ }
+{
+    let n = list.count;
+    let mut i: usize = 0;
+    while i < n {
+        if !same_bits_f32(f32_of(b, list, i), found[i]) {
+            return false;
+        }
+        i += 1;
+    }
+    true
+}
+
+// As numbers: -0 is 0.
+fn are_numbers(b: &[u8], list: List, found: &[f64]) -> bool
+    requires { ⌜ (list .count ≤ 4096) × (length (now found) ≤ 4096) ⌝ }
+{
+    if list.count != found.len() {
+        return false;
+    }
+    let n = list.count;
+    let mut i: usize = 0;
+    while i < n {
+        if f64_of(b, list, i) != found[i] {
+            return false;
+        }
+        i += 1;
+    }
+    true
+}
+
+// ---- the calls. Every byte of a lent output is A5 (165) before the call, so that is what a refusal leaves.
+
+fn replay_marks(b: &[u8]) -> bool {
+    let data = first_list(b);
+    let expected = list_after(b, data);
+    let mut processed = [0.0f32; 4096];
+    read_f32(b, data, &mut processed);
+    let mut out = [165u8; 4096];
+    let n = data.count;
+    let m = expected.count;
+    let reply = marks::process_scalar_data_mask(&processed[..n], &mut out[..m]);
+    is_reply(b, reply) && is_last(b, expected) && is_u8(b, expected, &out)
+}
+
+fn replay_stretch(b: &[u8]) -> bool {
+    let data = first_list(b);
+    let expected = list_after(b, data);
+    let mut values = [0u16; 4096];
+    read_u16(b, data, &mut values);
+    let mut out = [165u8; 4096];
+    let n = data.count;
+    let m = expected.count;
+    let reply = stretch::scale_u16_to_u8(&values[..n], &mut out[..m]);
+    is_reply(b, reply) && is_last(b, expected) && is_u8(b, expected, &out)
+}
+
+fn operate(op: u8, a: &[f32], b: &[f32], out: &mut [f32]) -> Reply {
+    match op {
+        8 => ops::sum_arrays(a, b, out),
+        9 => ops::difference_arrays(a, b, out),
+        10 => ops::ratio_arrays(a, b, out),
+        11 => ops::log_ratio_arrays(a, b, out),
+        _ => ops::normalized_diff_arrays(a, b, out),
+    }
+}
+
+fn replay_ops(b: &[u8]) -> bool {
+    let left = first_list(b);
+    let right = list_after(b, left);
+    let expected = list_after(b, right);
+    let mut x = [0.0f32; 4096];
+    read_f32(b, left, &mut x);
+    let mut y = [0.0f32; 4096];
+    read_f32(b, right, &mut y);
+    let untouched = numeric::f32_from_bits(0xa5a5a5a5);
+    let mut out = [untouched; 4096];
+    let n = left.count;
+    let m = right.count;
+    let k = expected.count;
+    let reply = operate(op_of(b), &x[..n], &y[..m], &mut out[..k]);
+    is_reply(b, reply) && is_last(b, expected) && is_f32(b, expected, &out)
+}
+
+fn replay_padding_u8(b: &[u8]) -> bool {
+    let data = first_list(b);
+    let expected = list_after(b, data);
+    let mut values = [0u8; 4096];
+    read_u8(b, data, &mut values);
+    let mut out = [165u8; 4096];
+    let n = data.count;
+    let m = expected.count;
+    let reply = padding::add_padding_to_square_u8(rows_of(b), cols_of(b), &values[..n], &mut out[..m]);
+    is_reply(b, reply) && is_last(b, expected) && is_u8(b, expected, &out)
+}
+
+fn replay_padding_u16(b: &[u8]) -> bool {
+    let data = first_list(b);
+    let expected = list_after(b, data);
+    let mut values = [0u16; 4096];
+    read_u16(b, data, &mut values);
+    let mut out = [0xa5a5u16; 4096];
+    let n = data.count;
+    let m = expected.count;
+    let reply = padding::add_padding_to_square_u16(rows_of(b), cols_of(b), &values[..n], &mut out[..m]);
+    is_reply(b, reply) && is_last(b, expected) && is_u16(b, expected, &out)
+}
+
+fn replay_composition(b: &[u8]) -> bool {
+    let first = first_list(b);
+    let second = list_after(b, first);
+    let expected = list_after(b, second);
+    let mut band1 = [0u8; 4096];
+    read_u8(b, first, &mut band1);
+    let mut band2 = [0u8; 4096];
+    read_u8(b, second, &mut band2);
+    let mut out = [165u8; 4096];
+    let n = first.count;
+    let m = second.count;
+    let k = expected.count;
+    let reply = synthetic_rgb::create_synthetic_rgb_by_mode_and_strategy(mode_of(b), strategy_of(b), &band1[..n], &band2[..m], &mut out[..k]);
+    is_reply(b, reply) && is_last(b, expected) && is_u8(b, expected, &out)
+}
+
+// In the record's order.
+fn floats_of(s: HistogramStats) -> [f64; 15] {
+    [
+        s.min_db, s.max_db, s.mean_db, s.std_db, s.median_db, s.p01, s.p02, s.p05, s.p10, s.p25, s.p75, s.p90, s.p95, s.p98, s.p99,
+    ]
+}
+
+fn are_statistics(b: &[u8], count: List, floats: List, s: HistogramStats) -> bool
+    requires { ⌜ floats .count ≤ 4096 ⌝ }
+{
+    let found = floats_of(s);
+    is_reply(b, Reply::Done) && u64_of(b, count, 0) == s.valid_count as u64 && are_numbers(b, floats, &found)
+}
+
+fn replay_statistics(b: &[u8]) -> bool {
+    let values = first_list(b);
+    let mask = list_after(b, values);
+    let count = list_after(b, mask);
+    let floats = list_after(b, count);
+    let mut db = [0.0; 4096];
+    read_f64(b, values, &mut db);
+    let mut valid_mask = [0u8; 4096];
+    read_u8(b, mask, &mut valid_mask);
+    let n = values.count;
+    let m = mask.count;
+    let answer = histogram::compute_histogram_stats(rows_of(b), cols_of(b), &db[..n], &valid_mask[..m]);
+    match answer {
+        StatisticsAnswer::Statistics(s) => is_last(b, floats) && are_statistics(b, count, floats, s),
+        StatisticsAnswer::Refused(k) => is_last(b, floats) && is_reply(b, Reply::Refused(k)),
+    }
+}
+
+// ---- the steps on floats, element by element
+
+fn least(n: u64, most: u64) -> u64 {
+    if n < most { n } else { most }
+}
+
+// Both ways to truncate, where the second one may be asked.
+fn is_truncated(x: f64, n: u64) -> bool {
+    if numeric::f64_as_u64(x) != n {
+        return false;
+    }
+    if x >= 0.0 {
+        if x <= 65535.0 {
+            return numeric::trunc_small(x) as u64 == n;
+        }
+    }
+    true
+}
+
+// Both ways to round to a whole number, where the second one may be asked.
+fn is_rounded(x: f64, n: u64) -> bool {
+    if numeric::round_f64_as_u64(x) != n {
+        return false;
+    }
+    if x >= 0.0 {
+        if x <= 65535.0 {
+            return numeric::round_small(x) as u64 == n;
+        }
+    }
+    true
+}
+
+// f64 as i64, from the sizes of its two sides.
+fn as_signed(x: f64) -> u64 {
+    if x < 0.0 {
+        return std::num::wrapping_sub_u64(0, least(numeric::f64_as_u64(-x), 0x8000_0000_0000_0000));
+    }
+    least(numeric::f64_as_u64(x), 0x7fff_ffff_ffff_ffff)
+}
+
+// The parts of the engine floor what is not negative only, by truncation.
+fn is_floor(x: f64, found: f64) -> bool {
+    if x >= 0.0 { numeric::f64_as_u64(x) == numeric::f64_as_u64(found) } else { true }
+}
+
+// A step from an f64 to an f64.
+fn step_f64(op: u8, x: f64) -> f64 {
+    match op {
+        32 => numeric::sqrt_f64(x),
+        33 => numeric::round_f64(x),
+        _ => numeric::abs_f64(x),
+    }
+}
+
+fn step_f32(op: u8, x: f32) -> f32 {
+    match op {
+        34 => numeric::round_f32(x),
+        _ => numeric::abs_f32(x),
+    }
+}
+
+// A step from two f64 to an f64; the second list of a clamp has its two ends.
+fn step_two(b: &[u8], op: u8, x: f64, ys: List, i: usize) -> f64
+    requires { ⌜ i ≤ 4096 ⌝ }
+{
+    match op {
+        38 => numeric::max_f64(x, f64_of(b, ys, i)),
+        39 => numeric::min_f64(x, f64_of(b, ys, i)),
+        _ => numeric::clamp_f64(x, f64_of(b, ys, 0), f64_of(b, ys, 1)),
+    }
+}
+
+// A step from an f64 to a whole number.
+fn is_whole(op: u8, x: f64, n: u64) -> bool {
+    match op {
+        48 => is_truncated(x, n),
+        49 => as_signed(x) == n,
+        50 => least(numeric::f64_as_u64(x), 4294967295) == n,
+        51 => least(numeric::f64_as_u64(x), 65535) == n,
+        52 => least(numeric::f64_as_u64(x), 255) == n,
+        _ => is_rounded(x, n),
+    }
+}
+
+// Whether one element of a record on floats is what the engine's function gives. A byte is rounded first and held to 255 then.
+fn is_step(b: &[u8], xs: List, ys: List, results: List, i: usize) -> bool
+    requires { ⌜ i ≤ 4096 ⌝ }
+{
+    let op = op_of(b);
+    match op {
+        32 | 33 | 36 => same_bits_f64(f64_of(b, results, i), step_f64(op, f64_of(b, xs, i))),
+        34 | 37 => same_bits_f32(f32_of(b, results, i), step_f32(op, f32_of(b, xs, i))),
+        35 => is_floor(f64_of(b, xs, i), f64_of(b, results, i)),
+        38 | 39 | 40 => f64_of(b, results, i) == step_two(b, op, f64_of(b, xs, i), ys, i),
+        41 => least(numeric::round_f32_as_u64(f32_of(b, xs, i)), 255) == numeric::round_f32_as_u64(f32_of(b, results, i)),
+        53 => least(numeric::f32_as_u64(f32_of(b, xs, i)), 255) == whole_of(b, results, i),
+        55 => least(numeric::round_f32_as_u64(f32_of(b, xs, i)), 255) == whole_of(b, results, i),
+        48 | 49 | 50 | 51 | 52 | 54 => is_whole(op, f64_of(b, xs, i), whole_of(b, results, i)),
+        _ => false,
+    }
+}
+
+fn are_steps(b: &[u8], xs: List, ys: List, results: List) -> bool
+    requires { ⌜ xs .count ≤ 4096 ⌝ }
+{
+    let n = xs.count;
+    let mut i: usize = 0;
+    while i < n {
+        if !is_step(b, xs, ys, results, i) {
+            return false;
+        }
+        i += 1;
+    }
+    true
+}
+
+// The record's last list has the results: its third for the steps of two operands and the clamps, else its second.
+fn replay_steps(b: &[u8]) -> bool {
+    let xs = first_list(b);
+    let ys = list_after(b, xs);
+    let op = op_of(b);
+    if op >= 38 {
+        if op <= 41 {
+            let results = list_after(b, ys);
+            return xs.count == results.count && is_last(b, results) && are_steps(b, xs, ys, results);
+        }
+    }
+    xs.count == ys.count && is_last(b, ys) && are_steps(b, xs, ys, ys)
+}
+
+// ---- files
+
+// Whether the call of a record answers and leaves what the record says.
+fn agrees(b: &[u8]) -> bool {
+    match op_of(b) {
+        1 => replay_statistics(b),
+        6 => replay_stretch(b),
+        7 => replay_composition(b),
+        8 | 9 | 10 | 11 | 12 => replay_ops(b),
+        13 => replay_marks(b),
+        14 => replay_padding_u8(b),
+        15 => replay_padding_u16(b),
+        _ => replay_steps(b),
+    }
+}
+
+// What came of a record: none was left, or it agrees, or it differs.
+enum Outcome {
+    End,
+    Same,
+    Differs,
+}
+
+// The length of the next record; 0 at the end of the file. One that is longer than the buffer is cut.
+fn next_length(fd: i32) -> usize
+    ensures { λ r. ⌜ r ≤ 65536 ⌝ }
+{
+    let mut head = [0u8; 4];
+    let got = io::read_full(fd, &mut head);
+    let n = u32_at(&head, 0);
+    if got < 4 {
+        return 0;
+    }
+    if n < 65536 { n as usize } else { 65536 }
+}
+
+fn read_record(fd: i32, buffer: &mut [u8], n: usize) -> usize
+    requires { ⌜ n ≤ length (now buffer) ⌝ }
+{
+    io::read_full(fd, &mut buffer[..n])
+}
+
+fn replay_next(fd: i32) -> Outcome {
+    let n = next_length(fd);
+    if n == 0 {
+        return Outcome::End;
+    }
+    let mut buffer = [0u8; 65536];
+    if read_record(fd, &mut buffer, n) < n {
+        return Outcome::Differs;
+    }
+    if agrees(&buffer[..n]) { Outcome::Same } else { Outcome::Differs }
+}
+
+struct Tally {
+    records: u64,
+    differ: u64,
+}
+
+fn with_outcome(tally: Tally, outcome: Outcome) -> Tally {
+    match outcome {
+        Outcome::End => tally,
+        Outcome::Same => Tally {
+            records: std::num::wrapping_add_u64(tally.records, 1),
+            differ: tally.differ,
+        },
+        Outcome::Differs => Tally {
+            records: std::num::wrapping_add_u64(tally.records, 1),
+            differ: std::num::wrapping_add_u64(tally.differ, 1),
+        },
+    }
+}
+
+fn is_end(outcome: Outcome) -> bool {
+    match outcome {
+        Outcome::End => true,
+        _ => false,
+    }
+}
+
+// A proved loop has to end, and nothing says that a file does: the loop counts its turns down.
+fn replay_file(fd: i32) -> Tally {
+    let mut tally = Tally { records: 0, differ: 0 };
+    let mut turns: u64 = 1000000;
+    while turns > 0 {
+        let outcome = replay_next(fd);
+        if is_end(outcome) {
+            return tally;
+        }
+        tally = with_outcome(tally, outcome);
+        turns -= 1;
+    }
+    tally
+}
+
+fn print_tally(name: &[u8], tally: Tally) {
+    io::write_all(STDOUT_FILENO, name);
+    io::write_all(STDOUT_FILENO, b": ");
+    io::print_decimal(STDOUT_FILENO, tally.records);
+    io::write_all(STDOUT_FILENO, b" records, ");
+    io::print_decimal(STDOUT_FILENO, tally.differ);
+    io::write_all(STDOUT_FILENO, b" differ\n");
+}
+
+// One line for a part, and all so far with it.
+fn replay_part(name: &[u8], path: &[u8], all: Tally) -> Tally {
+    let fd = os::open_read(path);
+    let tally = replay_file(fd);
+    libc::close(fd);
+    print_tally(name, tally);
+    Tally {
+        records: std::num::wrapping_add_u64(all.records, tally.records),
+        differ: std::num::wrapping_add_u64(all.differ, tally.differ),
+    }
+}
+
+fn main() {
+    let none = Tally { records: 0, differ: 0 };
+    let a = replay_part(b"marks", b"marks.bin", none);
+    let b = replay_part(b"ops", b"ops.bin", a);
+    let c = replay_part(b"padding", b"padding.bin", b);
+    let d = replay_part(b"numeric", b"numeric.bin", c);
+    let e = replay_part(b"stretch", b"stretch.bin", d);
+    let f = replay_part(b"composition", b"compose.bin", e);
+    let all = replay_part(b"statistics", b"statistics.bin", f);
+    print_tally(b"all", all);
+}
