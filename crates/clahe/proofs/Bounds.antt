@@ -23,18 +23,18 @@ use Rattle.spec.specs.Clahe.{levels64, threshold, clipped, excess}
 
 -- ---- counts as floats
 
-count-finite : (n : ℕ) → n ≤ 2 ^ 53 → T (finite (ofCount n))
+pub count-finite : (n : ℕ) → n ≤ 2 ^ 53 → T (finite (ofCount n))
 count-finite n h = value-finite (ofCount n) n 1 (count-value n h)
 
-count-le : (a b : ℕ) → a ≤ b → T (le (ofCount a) (ofCount b))
+pub count-le : (a b : ℕ) → a ≤ b → T (le (ofCount a) (ofCount b))
 unfolding ofInt
 count-le a b h = round-le binary64 false a 1 false b 1 (lit< tt) (lit< tt) (omega arith)
 
-zero-count : ofCount 0 ≡ zero64
+pub zero-count : ofCount 0 ≡ zero64
 unfolding ofInt ofBits
 zero-count = refl
 
-count-back : (w n : ℕ) → n ≤ 2 ^ 53 → n < 2 ^ w → toUnsigned w (ofCount n) ≡ n
+pub count-back : (w n : ℕ) → n ≤ 2 ^ 53 → n < 2 ^ w → toUnsigned w (ofCount n) ≡ n
 unfolding inFloat
 count-back w n h g = unsigned-back binary64 w n (le→leb n (2 ^ 53) h) g .1
 

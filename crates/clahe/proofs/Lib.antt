@@ -14,3 +14,4 @@ pub mod Positioned
 pub mod Shades
 pub mod Painted
 pub mod Listed
+pub mod Rest

@@ -2,7 +2,7 @@
 use mathlib.Core.Path.{_≡_, refl, sym, ap, _∙_}
 use mathlib.Core.Bool.{Bool, cond}
 use mathlib.Core.List.{List, [], _∷_, map}
-use Prim.Native.Nat.{ℕ, zero, suc, _+_, _*_, _/_, _%_, _≤_, _<_}
+use Prim.Native.Nat.{ℕ, zero, suc, _+_, _/_, _%_, _≤_, _<_}
 use native.Mathlib.Decide.{decLt}
 use native.Mathlib.Nat.{add-zero, le-of-suc-le-suc, not-suc-le-zero}
 use native.Mathlib.Omega.{arith}
@@ -12,7 +12,8 @@ use lib.ListN.{length, getD}
 use lib.Ieee.{Float, binary64, sub, mul, div, toUnsigned}
 use Rattle.spec.specs.Floats.{ofCount, rounded}
 use Rattle.spec.specs.Pixels.{Pixel}
-use Rattle.spec.specs.Clahe.{levels64, oneByOne, shared, threshold, clipAt, clip, tileSize, tilePixels, tileCounts, tileTable}
+use Rattle.clahe.specs.Limits.{allIn, InvalidCounted}
+use Rattle.spec.specs.Clahe.{levels64, oneByOne, shared, threshold, clipAt, clip, tilePixels, tileCounts, tileTable}
 
 pub one-by-one-length : (rest : ℕ) (hs : List ℕ) → length (oneByOne rest hs) ≡ length hs
 unfolding oneByOne
@@ -41,9 +42,14 @@ shared-from over hs each rest p q =
     ap (λ (n : ℕ). oneByOne n (map (λ h. h + each) hs)) q
     ∙ ap (λ (e : ℕ). oneByOne (rounded (sub binary64 over (mul binary64 (ofCount e) levels64))) (map (λ h. h + e) hs)) p
 
--- the counts of tile k after clipping
-pub table-of : (rows cols : ℕ) (px : List Pixel) (k : ℕ) (limit : Float) (counted hs : List ℕ) → limit ≡ threshold (tileSize rows (k / 8) * tileSize cols (k % 8))
+-- ---- the counts of tile k after clipping
+
+pub invalid-counted : InvalidCounted
+unfolding InvalidCounted tileTable clip
+invalid-counted rows cols px k = refl
+
+pub table-of : (rows cols : ℕ) (px : List Pixel) (k : ℕ) (limit : Float) (counted hs : List ℕ) → limit ≡ threshold (allIn rows cols k)
     → counted ≡ tileCounts (tilePixels rows cols px (k / 8) (k % 8)) → hs ≡ clipAt limit counted → hs ≡ tileTable rows cols px k
-unfolding tileTable clip
+unfolding InvalidCounted
 table-of rows cols px k limit counted hs p q e =
-    e ∙ ap (λ (l : Float). clipAt l counted) p ∙ ap (clipAt (threshold (tileSize rows (k / 8) * tileSize cols (k % 8)))) q
+    e ∙ ap (λ (l : Float). clipAt l counted) p ∙ ap (clipAt (threshold (allIn rows cols k))) q ∙ sym (invalid-counted rows cols px k)

@@ -1,7 +1,7 @@
 -- Where a tile lies, and its levels row by row. Assumes nothing.
 use mathlib.Core.Path.{_≡_, refl, ap, _∙_}
 use mathlib.Core.List.{List, [], _∷_, _++_, map, flatMap, map-append, append-nil}
-use Prim.Native.Nat.{ℕ, zero, suc, _+_, _-_, _*_, _≤_, _<_, zero-le, suc-le-suc}
+use Prim.Native.Nat.{ℕ, zero, suc, _+_, _-_, _*_, _/_, _%_, _≤_, _<_, zero-le, suc-le-suc}
 use native.Mathlib.Nat.{add-zero, sub-zero, suc-mul, mul-le-mul-right}
 use native.Mathlib.Omega.{arith}
 use lib.Ieee.{Float}
@@ -11,6 +11,7 @@ use Rattle.spec.specs.Lists.{placesFrom, counts, countOf, stored, sumOf}
 use Rattle.spec.specs.Pixels.{Pixel, off, on, validOf}
 use Rattle.spec.specs.Clahe.{tileSide, tileStart, tileSize, tilePixels, tileCounts, levelOf}
 use Rattle.clahe.specs.Band.{levels}
+use Rattle.clahe.specs.Limits.{ValidFewer}
 use Rattle.clahe.proofs.Whole.{next-times, times-most}
 use Rattle.clahe.proofs.Rows.{Most, stored-append, stored-most}
 
@@ -141,11 +142,18 @@ pub area-most : (rows cols ty tx : ℕ) → rows ≤ 4096 → cols ≤ 4096 → 
 area-most rows cols ty tx h k =
     times-most (tileSize rows ty) (tileSize cols tx) 4096 4096 (omega (arith, tile-most rows ty)) (omega (arith, tile-most cols tx))
 
-pub tile-sum-most : (rows cols : ℕ) (px : List Pixel) (ty tx : ℕ) → rows ≤ 4096 → cols ≤ 4096 → sumOf (tileCounts (tilePixels rows cols px ty tx)) ≤ 16777216
+tile-sum : (rows cols : ℕ) (px : List Pixel) (ty tx : ℕ) → sumOf (tileCounts (tilePixels rows cols px ty tx)) ≤ tileSize rows ty * tileSize cols tx
 unfolding tileCounts
-tile-sum-most rows cols px ty tx h k =
+tile-sum rows cols px ty tx =
     let ps = tilePixels rows cols px ty tx in
-    omega (arith, counts-sum 256 (levels ps) (levels-below ps), levels-fewer ps, tile-pixels-most rows cols px ty tx, area-most rows cols ty tx h k)
+    omega (arith, counts-sum 256 (levels ps) (levels-below ps), levels-fewer ps, tile-pixels-most rows cols px ty tx)
+
+pub valid-fewer : ValidFewer
+unfolding ValidFewer
+valid-fewer rows cols px k = tile-sum rows cols px (k / 8) (k % 8)
+
+pub tile-sum-most : (rows cols : ℕ) (px : List Pixel) (ty tx : ℕ) → rows ≤ 4096 → cols ≤ 4096 → sumOf (tileCounts (tilePixels rows cols px ty tx)) ≤ 16777216
+tile-sum-most rows cols px ty tx h k = omega (arith, tile-sum rows cols px ty tx, area-most rows cols ty tx h k)
 
 pub no-counts : (n k : ℕ) → getD {A = ℕ} (replicate n 0) k 0 ≡ 0
 no-counts zero k = refl

@@ -1,0 +1,44 @@
+-- What a code names, and the call that it stands for. Assumes nothing.
+use mathlib.Core.Path.{_≡_, refl, sym, _∙_}
+use Prim.Native.Nat.{ℕ, suc, _≤_}
+use native.Mathlib.Omega.{arith}
+use lib.ListN.{List·getD-eq-default}
+use Rattle.types.specs.declared.AutoscaleStrategy.{AutoscaleStrategy}
+use Rattle.types.specs.declared.SyntheticRgbMode.{SyntheticRgbMode}
+use Rattle.spec.specs.Answer.{Answer, refused}
+use Rattle.quicklook.specs.declared.codes.StrategyCode.{StrategyCode}
+use Rattle.quicklook.specs.declared.codes.StrategyCode.the-variants as ByStrategy
+use Rattle.quicklook.specs.declared.codes.ModeCode.{ModeCode}
+use Rattle.quicklook.specs.declared.codes.ModeCode.the-variants as ByMode
+use Rattle.quicklook.specs.Codes.{strategies, modes, strategyCode, modeCode, withStrategy, withMode}
+
+-- a code that is none of the first k is k or more
+pub past : {k n : ℕ} → k ≤ n → (n ≡ k → ⊥) → suc k ≤ n
+past h other = omega arith
+
+pub no-strategy : (code : ℕ) → 7 ≤ code → ByStrategy.Nothing ≡ strategyCode code
+unfolding strategyCode
+no-strategy code h = sym (List·getD-eq-default strategies ByStrategy.Nothing h)
+
+pub no-mode : (code : ℕ) → 4 ≤ code → ByMode.Nothing ≡ modeCode code
+unfolding modeCode
+no-mode code h = sym (List·getD-eq-default modes ByMode.Nothing h)
+
+-- found is what the function gave for the code
+module _ {A : Type 0} (code found : StrategyCode) (call : AutoscaleStrategy → Answer A) (e : found ≡ code) where
+  pub named-strategy : (strategy : AutoscaleStrategy) → found ≡ ByStrategy.Names strategy → withStrategy code call ≡ call strategy
+  unfolding withStrategy
+  named-strategy strategy n = rw (sym e ∙ n) refl
+
+  pub unnamed-strategy : found ≡ ByStrategy.Nothing → withStrategy code call ≡ refused 255
+  unfolding withStrategy
+  unnamed-strategy n = rw (sym e ∙ n) refl
+
+module _ {A : Type 0} (code found : ModeCode) (call : SyntheticRgbMode → Answer A) (e : found ≡ code) where
+  pub named-mode : (mode : SyntheticRgbMode) → found ≡ ByMode.Names mode → withMode code call ≡ call mode
+  unfolding withMode
+  named-mode mode n = rw (sym e ∙ n) refl
+
+  pub unnamed-mode : found ≡ ByMode.Nothing → withMode code call ≡ refused 255
+  unfolding withMode
+  unnamed-mode n = rw (sym e ∙ n) refl

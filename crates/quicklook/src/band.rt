@@ -1,0 +1,94 @@
+// The calls on one band that answer numbers: its statistics and its window.
+ghost use mathlib.Core.Path.{_≡_};
+ghost use Rattle.spec.specs.Answer.{number, after};
+ghost use Rattle.spec.specs.Statistics as Statistics;
+ghost use Rattle.spec.specs.Window as Window;
+ghost use Rattle.quicklook.specs.Codes.{strategyCode, withStrategy};
+ghost use Rattle.quicklook.specs.Numbers.{kept, countOf, floatsOf, blankOf, windowFloats};
+use super::codes;
+use types::{AutoscaleStrategy, HistogramStats, StatisticsAnswer, WindowAnswer};
+
+// The record's floats, in its order.
+fn put_statistics(stats: HistogramStats, floats: &mut [f64; 15])
+    ensures { λ _. ⌜ now (floats .exit) ≡ floatsOf stats ⌝ }
+{
+    *floats = [
+        stats.min_db,
+        stats.max_db,
+        stats.mean_db,
+        stats.std_db,
+        stats.median_db,
+        stats.p01,
+        stats.p02,
+        stats.p05,
+        stats.p10,
+        stats.p25,
+        stats.p75,
+        stats.p90,
+        stats.p95,
+        stats.p98,
+        stats.p99,
+    ];
+}
+
+// The count and the fifteen floats of a band.
+#[no_mangle]
+pub extern "C" fn quicklook_statistics(rows: usize, cols: usize, db: &[f64], valid_mask: &[u8], valid_count: &mut u64, floats: &mut [f64; 15]) -> u8
+    ensures reply { λ r. ⌜ r ≡ number (Statistics.statisticsCall rows cols (now («valid_mask» .entry)) (now (db .entry))) ⌝ }
+    ensures count { λ _. ⌜ now («valid_count» .exit) ≡ kept countOf (Statistics.statisticsCall rows cols (now («valid_mask» .entry)) (now (db .entry))) (now («valid_count» .entry)) ⌝ }
+    ensures floats { λ _. ⌜ now (floats .exit) ≡ after floatsOf (Statistics.statisticsCall rows cols (now («valid_mask» .entry)) (now (db .entry))) (now (floats .entry)) ⌝ }
+{
+    match histogram::compute_histogram_stats(rows, cols, db, valid_mask) {
+        StatisticsAnswer::Statistics(stats) => {
+            *valid_count = stats.valid_count as u64;
+            put_statistics(stats, floats);
+            0
+        }
+        StatisticsAnswer::Refused(k) => k,
+    }
+}
+
+// A window's floats, or blank and zeros.
+fn put_window(strategy: AutoscaleStrategy, rows: usize, cols: usize, db: &[f64], valid_mask: &[u8], blank: &mut u8, floats: &mut [f64; 4]) -> u8
+    ensures reply { λ r. ⌜ r ≡ number (Window.windowCall strategy rows cols (now («valid_mask» .entry)) (now (db .entry))) ⌝ }
+    ensures blank { λ _. ⌜ now (blank .exit) ≡ kept blankOf (Window.windowCall strategy rows cols (now («valid_mask» .entry)) (now (db .entry))) (now (blank .entry)) ⌝ }
+    ensures floats { λ _. ⌜ now (floats .exit) ≡ after windowFloats (Window.windowCall strategy rows cols (now («valid_mask» .entry)) (now (db .entry))) (now (floats .entry)) ⌝ }
+{
+    match autoscale::autoscale_window(strategy, rows, cols, db, valid_mask) {
+        WindowAnswer::Window {
+            low,
+            high,
+            range,
+            gamma,
+        } => {
+            *blank = 0;
+            *floats = [low, high, range, gamma];
+            0
+        }
+        WindowAnswer::Blank => {
+            *blank = 1;
+            *floats = [0.0, 0.0, 0.0, 0.0];
+            0
+        }
+        WindowAnswer::Refused(k) => k,
+    }
+}
+
+// The window of a band.
+#[no_mangle]
+pub extern "C" fn quicklook_window(strategy: u8, rows: usize, cols: usize, db: &[f64], valid_mask: &[u8], blank: &mut u8, floats: &mut [f64; 4]) -> u8
+    ensures reply {
+        λ r. ⌜ r ≡ number (withStrategy (strategyCode strategy) (λ s. Window.windowCall s rows cols (now («valid_mask» .entry)) (now (db .entry)))) ⌝
+    }
+    ensures blank {
+        λ _. ⌜ now (blank .exit) ≡ kept blankOf (withStrategy (strategyCode strategy) (λ s. Window.windowCall s rows cols (now («valid_mask» .entry)) (now (db .entry)))) (now (blank .entry)) ⌝
+    }
+    ensures floats {
+        λ _. ⌜ now (floats .exit) ≡ after windowFloats (withStrategy (strategyCode strategy) (λ s. Window.windowCall s rows cols (now («valid_mask» .entry)) (now (db .entry)))) (now (floats .entry)) ⌝
+    }
+{
+    let codes::StrategyCode::Names(strategy) = codes::strategy_of(strategy) else {
+        return 255;
+    };
+    put_window(strategy, rows, cols, db, valid_mask, blank, floats)
+}

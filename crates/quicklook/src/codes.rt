@@ -1,0 +1,43 @@
+// The codes of strategies and modes: their places in the order of types.rs.
+ghost use mathlib.Core.Path.{_≡_};
+ghost use Rattle.quicklook.specs.Codes.{strategyCode, modeCode};
+use types::{AutoscaleStrategy, SyntheticRgbMode};
+
+pub enum StrategyCode {
+    Names(AutoscaleStrategy),
+    Nothing,
+}
+
+pub enum ModeCode {
+    Names(SyntheticRgbMode),
+    Nothing,
+}
+
+// The strategy that a code names.
+pub fn strategy_of(code: u8) -> StrategyCode
+    ensures { λ r. ⌜ r ≡ strategyCode code ⌝ }
+{
+    match code {
+        0 => StrategyCode::Names(AutoscaleStrategy::Standard),
+        1 => StrategyCode::Names(AutoscaleStrategy::Robust),
+        2 => StrategyCode::Names(AutoscaleStrategy::Adaptive),
+        3 => StrategyCode::Names(AutoscaleStrategy::Equalized),
+        4 => StrategyCode::Names(AutoscaleStrategy::Clahe),
+        5 => StrategyCode::Names(AutoscaleStrategy::Tamed),
+        6 => StrategyCode::Names(AutoscaleStrategy::Default),
+        _ => StrategyCode::Nothing,
+    }
+}
+
+// The mode that a code names.
+pub fn mode_of(code: u8) -> ModeCode
+    ensures { λ r. ⌜ r ≡ modeCode code ⌝ }
+{
+    match code {
+        0 => ModeCode::Names(SyntheticRgbMode::Default),
+        1 => ModeCode::Names(SyntheticRgbMode::RgbRatio),
+        2 => ModeCode::Names(SyntheticRgbMode::SarUrban),
+        3 => ModeCode::Names(SyntheticRgbMode::Enhanced),
+        _ => ModeCode::Nothing,
+    }
+}

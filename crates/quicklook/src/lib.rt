@@ -1,0 +1,7 @@
+// The calls for programs in C, as include/quicklook.h declares them. Each answers the table's number, 0 where it is done.
+mod codes; // codes.rt: the codes of strategies and modes
+mod replies; // replies.rt: a call's reply as its number
+mod whole; // whole.rt: marks, stretch and arithmetic, on whole lists
+mod pads; // pads.rt: padding to a square
+mod band; // band.rt: statistics and window of one band
+mod colours; // colours.rt: composition
