@@ -1,0 +1,67 @@
+-- What is known of a call that none of the numbers 1 to 3 refuses. Assumes nothing.
+use mathlib.Core.Path.{_≡_, sym, _∙_}
+use mathlib.Core.Bool.{Bool, true, false, _||_}
+use mathlib.Core.List.{List, _∷_}
+use Prim.Native.Nat.{ℕ, _*_, _<_, _^_}
+use native.Mathlib.Nat.{mul-le-mul}
+use native.Mathlib.Omega.{arith}
+use lib.ListN.{length}
+use lib.Ieee.{Float}
+use Rattle.types.specs.declared.AutoscaleStrategy.{AutoscaleStrategy}
+use Rattle.spec.specs.Answer.{firstOf}
+use Rattle.spec.specs.Picture.{Lent}
+use Rattle.spec.specs.Refusals.{tooWide, notNamed, unlike, workUnlike}
+use Rattle.spec.specs.Strategies.{isClahe}
+use Rattle.clahe.specs.Band.{Raster}
+use Rattle.raster.proofs.Bands.{none-applies, or-false, sides-accepted, lengths-accepted, named}
+use Rattle.pipeline.specs.Ready.{Ready}
+use Rattle.pipeline.specs.Windows.{lengthsUnlike}
+
+pub sized : (rows cols : ℕ) (m : List ℕ) (d : List Float) → tooWide rows cols ≡ false → notNamed rows cols m d ≡ false → Raster rows cols m d
+sized rows cols m d s n =
+    let a = sides-accepted rows cols s in
+    let b = lengths-accepted rows cols m d n in
+    record { tall = a .0; wide = a .1; marks-length = b .1; db-length = b .0 }
+
+-- what a pass over the band asks
+pub passable : {rows cols : ℕ} {m : List ℕ} {d : List Float} → Raster rows cols m d → (length m ≡ length d) × (length d < 2 ^ 32)
+passable s = (s .marks-length ∙ sym (s .db-length), omega (arith, s .db-length, mul-le-mul (s .tall) (s .wide)))
+
+-- the work of Clahe
+pub work-length : (strategy : AutoscaleStrategy) (work : ℕ) → workUnlike strategy work ≡ false → isClahe strategy ≡ true → work ≡ 16384
+unfolding workUnlike
+work-length strategy work e c = named work 16384 (rw c at e)
+
+-- a grey call
+module _ (strategy : AutoscaleStrategy) (rows cols : ℕ) (m : List ℕ) (d : List Float) (out work : ℕ) where
+  pub grey-ready : (ts : List Bool) → firstOf 1 (tooWide rows cols ∷ (notNamed rows cols m d || unlike out (rows * cols) || workUnlike strategy work) ∷ ts) ≡ 0 →
+      Ready strategy rows cols m d out work
+  grey-ready ts e =
+      let a = none-applies 0 (tooWide rows cols) ((notNamed rows cols m d || unlike out (rows * cols) || workUnlike strategy work) ∷ ts) e in
+      let b = none-applies 1 (notNamed rows cols m d || unlike out (rows * cols) || workUnlike strategy work) ts (a .1) in
+      let w = or-false (notNamed rows cols m d || unlike out (rows * cols)) (workUnlike strategy work) (b .0) in
+      let o = or-false (notNamed rows cols m d) (unlike out (rows * cols)) (w .0) in
+      record { band = sized rows cols m d (a .0) (o .0); out-length = named out (rows * cols) (o .1); work-length = work-length strategy work (w .1) }
+
+-- a picture
+pub record PictureSized (strategy : AutoscaleStrategy) (rows cols : ℕ) (m1 : List ℕ) (d1 : List Float) (m2 : List ℕ) (d2 : List Float) (lent : Lent) : Type 0 where
+  pub band1 : Ready strategy rows cols m1 d1 (lent .grey1) (lent .work)
+  pub band2 : Ready strategy rows cols m2 d2 (lent .grey2) (lent .work)
+  pub rgb-length : lent .colours ≡ 3 * (rows * cols)
+
+module _ (strategy : AutoscaleStrategy) (rows cols : ℕ) (m1 : List ℕ) (d1 : List Float) (m2 : List ℕ) (d2 : List Float) (lent : Lent) where
+  pub picture-sized : (ts : List Bool) → firstOf 1 (tooWide rows cols ∷ lengthsUnlike strategy rows cols m1 d1 m2 d2 lent ∷ ts) ≡ 0 → PictureSized strategy rows cols m1 d1 m2 d2 lent
+  picture-sized ts e =
+      let a = none-applies 0 (tooWide rows cols) (lengthsUnlike strategy rows cols m1 d1 m2 d2 lent ∷ ts) e in
+      let b = none-applies 1 (lengthsUnlike strategy rows cols m1 d1 m2 d2 lent) ts (a .1) in
+      let w = or-false _ (workUnlike strategy (lent .work)) (b .0) in
+      let c = or-false _ (unlike (lent .colours) (3 * (rows * cols))) (w .0) in
+      let g2 = or-false _ (unlike (lent .grey2) (rows * cols)) (c .0) in
+      let g1 = or-false (notNamed rows cols m1 d1 || notNamed rows cols m2 d2) (unlike (lent .grey1) (rows * cols)) (g2 .0) in
+      let n = or-false (notNamed rows cols m1 d1) (notNamed rows cols m2 d2) (g1 .0) in
+      let k = work-length strategy (lent .work) (w .1) in
+      record {
+        band1 = record { band = sized rows cols m1 d1 (a .0) (n .0); out-length = named (lent .grey1) (rows * cols) (g1 .1); work-length = k };
+        band2 = record { band = sized rows cols m2 d2 (a .0) (n .1); out-length = named (lent .grey2) (rows * cols) (g2 .1); work-length = k };
+        rgb-length = named (lent .colours) (3 * (rows * cols)) (c .1)
+      }

@@ -1,0 +1,70 @@
+-- The window of a grey call by the answers of its parts. Assumes nothing.
+use mathlib.Core.Path.{_≡_, sym, ap, _∙_}
+use mathlib.Core.Bool.{Bool, true, false, _||_}
+use mathlib.Core.List.{List, [], _∷_}
+use Prim.Native.Nat.{ℕ, _*_}
+use types.Run.{OneOf}
+use denote.Enum.Declared.{tagOf}
+use lib.Ieee.{Float}
+use Rattle.types.specs.declared.AutoscaleStrategy.{AutoscaleStrategy}
+use Rattle.types.specs.declared.WindowAnswer.{WindowAnswer}
+use Rattle.types.specs.declared.WindowAnswer.the-variants.{Refused}
+use Rattle.types.proofs.WindowAnswer.{the-type}
+use Rattle.spec.specs.Answer.{firstOf}
+use Rattle.spec.specs.Grey.{greyTests}
+use Rattle.spec.specs.Pixels.{Pixel, pixels}
+use Rattle.spec.specs.Refusals.{tooWide, notNamed, unlike, workUnlike, badMark, badDecibel, badTiles}
+use Rattle.spec.specs.Statistics.{statisticsOf}
+use Rattle.spec.specs.Window.{windowOf, otherGamma}
+use Rattle.autoscale.specs.Bands.{bandWindow}
+use Rattle.pipeline.specs.Windows.{tilesRefused, greyWindow}
+use Rattle.pipeline.proofs.Tests.{at-shape, at-four, at-five, at-six, at-none}
+use Rattle.pipeline.proofs.Windowed.{window-open, tiles-window, banded-bad, banded-good}
+
+module _ (strategy : AutoscaleStrategy) (rows cols : ℕ) (m : List ℕ) (d : List Float) (out work : ℕ) where
+  abbrev px : List Pixel
+  px = pixels m d
+
+  abbrev lengths : Bool
+  lengths = notNamed rows cols m d || unlike out (rows * cols) || workUnlike strategy work
+
+  abbrev w0 : WindowAnswer
+  w0 = windowOf strategy (statisticsOf px)
+
+  abbrev W : WindowAnswer
+  W = greyWindow strategy rows cols m d out work
+
+  abbrev shape : List Bool
+  shape = tooWide rows cols ∷ lengths ∷ badMark m ∷ []
+
+  pub grey-shape : (k : ℕ) → k ≡ firstOf 1 shape → (k ≡ 0 → ⊥) → Refused k ≡ W
+  unfolding greyWindow greyTests
+  grey-shape k e n = at-shape Refused w0 _ _ _ _ _ _ k e n
+
+  module _ (good : firstOf 1 shape ≡ 0) (w : WindowAnswer) (q : w ≡ bandWindow strategy px) where
+    pub grey-bad : (k : ℕ) → w ≡ Refused k → Refused k ≡ W
+    unfolding greyWindow greyTests bandWindow
+    grey-bad k e =
+        let b = banded-bad w0 w (badDecibel px) k (window-open strategy (statisticsOf px)) q e in
+        ap Refused (sym (b .1)) ∙ at-four Refused w0 _ _ _ _ _ _ good (b .0)
+
+    module _ (unrefused : OneOf (0 ∷ 1 ∷ []) (tagOf the-type w)) where
+      known : (badDecibel px ≡ false) × (w ≡ w0)
+      unfolding bandWindow
+      known = banded-good w0 w (badDecibel px) q unrefused
+
+      pub grey-tiles : tilesRefused strategy rows cols w ≡ true → Refused 5 ≡ W
+      unfolding greyWindow greyTests
+      grey-tiles e = at-five Refused w0 _ _ _ _ _ _ good (known .0) (sym (tiles-window strategy rows cols px w (known .1)) ∙ e)
+
+      module _ (t : tilesRefused strategy rows cols w ≡ false) where
+        no-tiles : badTiles strategy rows cols px ≡ false
+        no-tiles = sym (tiles-window strategy rows cols px w (known .1)) ∙ t
+
+        pub grey-gamma : otherGamma w ≡ true → Refused 6 ≡ W
+        unfolding greyWindow greyTests
+        grey-gamma e = at-six Refused w0 _ _ _ _ _ _ good (known .0) no-tiles (sym (ap otherGamma (known .1)) ∙ e)
+
+        pub grey-unrefused : otherGamma w ≡ false → w ≡ W
+        unfolding greyWindow greyTests
+        grey-unrefused e = known .1 ∙ at-none Refused w0 _ _ _ _ _ _ good (known .0) no-tiles (sym (ap otherGamma (known .1)) ∙ e)

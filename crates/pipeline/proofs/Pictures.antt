@@ -1,0 +1,157 @@
+-- The picture call by the windows that `picture_windows` answers. Assumes nothing.
+use mathlib.Core.Path.{_≡_, refl, sym, ap, _∙_}
+use mathlib.Core.Bool.{Bool, true, false, _||_}
+use mathlib.Core.List.{List}
+use Prim.Native.Nat.{ℕ, zero, suc}
+use native.Mathlib.Omega.{arith}
+use lib.Ieee.{Float}
+use Rattle.types.specs.declared.AutoscaleStrategy.{AutoscaleStrategy}
+use Rattle.types.specs.declared.AutoscaleStrategy.the-variants.{Standard, Robust, Adaptive, Equalized, Clahe, Tamed, Default}
+use Rattle.types.specs.declared.WindowAnswer.{WindowAnswer}
+use Rattle.types.specs.declared.WindowAnswer.the-variants.{Refused}
+use Rattle.spec.specs.Answer.{Answer, refused, done, firstOf, orRefused, answer, number, after}
+use Rattle.spec.specs.Colour.{bytesOf, coloursOf}
+use Rattle.spec.specs.Grey.{values}
+use Rattle.spec.specs.Picture.{Picture, Lent, pictureGreys, composed, pictureTests}
+use Rattle.spec.specs.Pixels.{Pixel, pixels}
+use Rattle.spec.specs.Statistics.{statisticsOf}
+use Rattle.spec.specs.Strategies.{isClahe, isTamed}
+use Rattle.spec.specs.Stretch.{stretch}
+use Rattle.spec.specs.Value.{full8}
+use Rattle.spec.specs.Window.{pictureWindow, otherGamma}
+use Rattle.autoscale.specs.Painted.{plainValues, painting}
+use Rattle.autoscale.proofs.Answers.{values-outside}
+use Rattle.raster.proofs.Bands.{or-false}
+use Rattle.pipeline.specs.declared.windows.PictureWindows.{PictureWindows}
+use Rattle.pipeline.specs.declared.windows.PictureWindows.the-variants as Both
+use Rattle.pipeline.specs.Ready.{Opens, PictureReady}
+use Rattle.pipeline.specs.Windows.{unless, pictureWindows}
+use Rattle.pipeline.specs.Work.{uses, Kept}
+use Rattle.pipeline.proofs.Accepted.{picture-sized}
+use Rattle.pipeline.proofs.Greys.{open-painting, last-clear, uses-done}
+use Rattle.pipeline.proofs.Windowed.{picture-open}
+
+-- ---- one band
+
+-- a window that opens leaves the greys
+pub opens-after : (w : WindowAnswer) (greys old new : List ℕ) → Opens w → new ≡ after (λ l. l) (painting w greys) old → new ≡ greys
+unfolding after
+opens-after w greys old new o e = e ∙ ap (λ (a : Answer (List ℕ)). after (λ l. l) a old) (o .paints greys)
+
+tamed-outside : (s : AutoscaleStrategy) → isTamed s ≡ true → isClahe s ≡ false
+unfolding isTamed isClahe
+tamed-outside Standard e = refl
+tamed-outside Robust e = refl
+tamed-outside Adaptive e = refl
+tamed-outside Equalized e = refl
+tamed-outside Clahe e = sym e
+tamed-outside Tamed e = refl
+tamed-outside Default e = refl
+
+module _ (strategy : AutoscaleStrategy) (rows cols : ℕ) (px : List Pixel) (w : WindowAnswer) where
+  pub greys-tamed : isTamed strategy ≡ true → plainValues full8 px w ≡ pictureGreys strategy rows cols px w
+  unfolding pictureGreys
+  greys-tamed e = rw e (sym (values-outside full8 strategy rows cols px w (tamed-outside strategy e)))
+
+  pub greys-stretched : isTamed strategy ≡ false → stretch (values full8 strategy rows cols px w) ≡ pictureGreys strategy rows cols px w
+  unfolding pictureGreys
+  greys-stretched e = rw e
+
+-- the work list over two bands
+pub kept-twice : (b : Bool) (old mid new : List Float) → Kept b old mid → Kept b mid new → Kept b old new
+kept-twice b old mid new k l = record { size = l .size ∙ k .size; same = λ e. l .same e ∙ k .same e }
+
+-- ---- the answer of `picture_windows` by its case
+
+unless-refused : (n : ℕ) (a b : WindowAnswer) {P : Type 0} (p : P) (k : ℕ) → unless Both.Refused n (Both.Windows a b) ≡ Both.Refused k → answer n p ≡ refused k
+unfolding unless answer orRefused
+unless-refused zero a b p k e = absurd (let z : _≡_ {A = ℕ} 0 1 = cc in omega arith)
+unless-refused (suc j) a b p k e = ap refused (let z : suc j ≡ k = cc in z)
+
+unless-windows : (n : ℕ) (a b u v : WindowAnswer) → unless Both.Refused n (Both.Windows a b) ≡ Both.Windows u v → (n ≡ 0) × (u ≡ a) × (v ≡ b)
+unfolding unless
+unless-windows zero a b u v e = (refl, (let z : u ≡ a = cc in z), (let z : v ≡ b = cc in z))
+unless-windows (suc j) a b u v e = absurd (let z : _≡_ {A = ℕ} 0 1 = cc in omega arith)
+
+-- ---- the call
+module _ (strategy : AutoscaleStrategy) (rows cols : ℕ) (m1 : List ℕ) (d1 : List Float) (m2 : List ℕ) (d2 : List Float) (grey1 grey2 rgb : List ℕ) (work : List Float)
+    (lent : Lent) (w : PictureWindows) (is : w ≡ pictureWindows strategy rows cols m1 d1 m2 d2 lent) where
+  abbrev px1 : List Pixel
+  px1 = pixels m1 d1
+
+  abbrev px2 : List Pixel
+  px2 = pixels m2 d2
+
+  abbrev w01 : WindowAnswer
+  w01 = pictureWindow strategy true (statisticsOf px1)
+
+  abbrev w02 : WindowAnswer
+  w02 = pictureWindow strategy false (statisticsOf px2)
+
+  abbrev n : ℕ
+  n = firstOf 1 (pictureTests strategy rows cols m1 d1 m2 d2 lent px1 px2 w01 w02)
+
+  abbrev greys : WindowAnswer → List Pixel → List ℕ
+  greys v px = pictureGreys strategy rows cols px v
+
+  abbrev painted : Picture
+  painted = composed strategy (greys w01 px1) (greys w02 px2)
+
+  abbrev owed : Answer Picture
+  owed = answer n painted
+
+  -- what the call owes: the number, the four lists
+  abbrev Owed : ℕ → List ℕ → List ℕ → List ℕ → List Float → Type 0
+  Owed r g1 g2 c last =
+      (r ≡ number owed)
+      × ((g1 ≡ after (λ p. p .grey1) owed grey1)
+      × ((g2 ≡ after (λ p. p .grey2) owed grey2)
+      × ((c ≡ after (λ p. bytesOf (p .colours)) owed rgb) × Kept (uses strategy owed) work last)))
+
+  by-answer : {B : Type 0} (f : Picture → List B) (old : List B) (a : Answer Picture) → owed ≡ a → after f a old ≡ after f owed old
+  by-answer {B} f old a e = ap (λ (q : Answer Picture). after f q old) (sym e)
+
+  -- refused: nothing is written
+  pub picture-refused : (k : ℕ) → w ≡ Both.Refused k → Owed k grey1 grey2 rgb work
+  unfolding pictureWindows number after
+  picture-refused k e =
+      let r = unless-refused n w01 w02 painted k (sym is ∙ e) in
+      (sym (ap number r), (by-answer _ grey1 (refused k) r, (by-answer _ grey2 (refused k) r, (by-answer _ rgb (refused k) r, record { size = refl; same = λ u. refl }))))
+
+  module _ (w1 w2 : WindowAnswer) (e : w ≡ Both.Windows w1 w2) where
+    parts : (n ≡ 0) × (w1 ≡ w01) × (w2 ≡ w02)
+    unfolding pictureWindows
+    parts = unless-windows n w01 w02 w1 w2 (sym is ∙ e)
+
+    gammas : (otherGamma w01 ≡ false) × (otherGamma w02 ≡ false)
+    unfolding pictureTests
+    gammas = or-false (otherGamma w01) (otherGamma w02) (last-clear _ _ _ _ _ (otherGamma w01 || otherGamma w02) (parts .0))
+
+    -- both windows are known, and nothing is refused
+    pub picture-asks : PictureReady strategy rows cols m1 d1 w1 m2 d2 w2 (lent .grey1) (lent .grey2) (lent .colours) (lent .work)
+    unfolding pictureTests
+    picture-asks =
+        let s = picture-sized strategy rows cols m1 d1 m2 d2 lent _ (parts .0) in
+        record {
+          band1 = s .band1;
+          band2 = s .band2;
+          opens1 = rw (parts .1) (record { paints = open-painting w01 (picture-open strategy true (statisticsOf px1)) (gammas .0) });
+          opens2 = rw (parts .2) (record { paints = open-painting w02 (picture-open strategy false (statisticsOf px2)) (gammas .1) });
+          rgb-length = s .rgb-length
+        }
+
+    is-done : owed ≡ done painted
+    unfolding answer orRefused
+    is-done = rw (parts .0)
+
+    pub picture-done : (g1 g2 c : List ℕ) (last : List Float) → g1 ≡ greys w1 px1 → g2 ≡ greys w2 px2 → c ≡ bytesOf (coloursOf strategy g1 g2) → Kept (isClahe strategy) work last → Owed 0 g1 g2 c last
+    unfolding number after composed
+    picture-done g1 g2 c last e1 e2 ec k =
+        let h1 : g1 ≡ greys w01 px1 = e1 ∙ ap (λ (v : WindowAnswer). greys v px1) (parts .1) in
+        let h2 : g2 ≡ greys w02 px2 = e2 ∙ ap (λ (v : WindowAnswer). greys v px2) (parts .2) in
+        let hc : c ≡ bytesOf (coloursOf strategy (greys w01 px1) (greys w02 px2)) =
+            ec ∙ ap (λ (l : List ℕ). bytesOf (coloursOf strategy l g2)) h1 ∙ ap (λ (l : List ℕ). bytesOf (coloursOf strategy (greys w01 px1) l)) h2 in
+        (sym (ap number is-done),
+        (h1 ∙ by-answer _ grey1 (done painted) is-done,
+        (h2 ∙ by-answer _ grey2 (done painted) is-done,
+        (hc ∙ by-answer _ rgb (done painted) is-done, rw (← uses-done strategy n painted (parts .0)) k))))

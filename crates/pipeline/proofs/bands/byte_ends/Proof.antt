@@ -1,0 +1,69 @@
+-- `pipeline::bands::byte_ends` meets its contract. The invariant: the ends of what is left, from those so far, are the whole list's. Assumes nothing.
+use mathlib.Core.Path.{_≡_, refl, sym, ap, _∙_}
+use Prim.Native.Nat.{_-_, _≤_}
+use native.Mathlib.Omega.{arith}
+use borrow.Author.Needs.{needs}
+use denote.Ref.{now}
+use lib.ListN.{length, drop, drop-of-length-le}
+use Rattle.spec.specs.Lists.{lowest, highest}
+use Rattle.stretch.proofs.Loops.{lowest-more, highest-more}
+use Rattle.pipeline.proofs.bands.byte_ends.Statement.{statement}
+use Rattle.pipeline.proofs.bands.byte_ends.Tie as tie
+
+abbrev Inv-loop : tie.InvT-loop
+Inv-loop bytes lo₀ hi₀ i₀ lo hi i = (i ≤ length bytes) × (lowest lo (drop i bytes) ≡ lowest 65535 bytes) × (highest hi (drop i bytes) ≡ highest 0 bytes)
+
+abbrev μ-loop : tie.MeasureT-loop
+μ-loop bytes lo₀ hi₀ i₀ lo hi i = length bytes - i
+
+loop-holds : tie.Need-loop-holds Inv-loop μ-loop
+loop-holds c = (omega arith, refl, refl)
+
+shared-slice-read-x : tie.Need-shared-slice-read-x Inv-loop μ-loop
+shared-slice-read-x c = omega arith
+
+cast-x : tie.Need-cast-x Inv-loop μ-loop
+cast-x c = omega (arith, c .shared-slice-known2 .given (c .before .before .loop .i))
+
+min-u16-requires : tie.Need-min-u16-requires Inv-loop μ-loop
+min-u16-requires c κs = search needs
+
+max-u16-requires : tie.Need-max-u16-requires Inv-loop μ-loop
+max-u16-requires c κs = search needs
+
+add-i : tie.Need-add-i Inv-loop μ-loop
+add-i c = omega arith
+
+loop-less : tie.Need-loop-less Inv-loop μ-loop
+loop-less c = omega arith
+
+loop-again : tie.Need-loop-again Inv-loop μ-loop
+loop-again c =
+    let l = c .before .before .before .before in
+    let xs = now (l .before .before .args .bytes) in
+    (omega arith, rw (c .before .min-u16 .ensures) (lowest-more (l .loop .lo) (lowest 65535 xs) xs (l .loop .i) (omega arith) (l .loop .inv .1)),
+    rw (c .max-u16 .ensures) (highest-more (l .loop .hi) (highest 0 xs) xs (l .loop .i) (omega arith) (l .loop .inv .2)))
+
+returns : tie.Need-returns Inv-loop μ-loop
+unfolding lowest highest
+returns c =
+    let l = c .before in
+    let xs = now (l .before .before .args .bytes) in
+    let none = drop-of-length-le xs (c .loop-test .left) in
+    (sym (ap (lowest (l .loop .lo)) none) ∙ l .loop .inv .1, sym (ap (highest (l .loop .hi)) none) ∙ l .loop .inv .2)
+
+pub byte-ends-spec : {M : Type 1} → statement M
+byte-ends-spec =
+    tie.close
+    (tie.spec
+    Inv-loop
+    μ-loop
+    loop-holds
+    shared-slice-read-x
+    cast-x
+    min-u16-requires
+    max-u16-requires
+    add-i
+    loop-less
+    loop-again
+    returns)

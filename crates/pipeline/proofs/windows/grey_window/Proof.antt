@@ -1,0 +1,75 @@
+-- `pipeline::windows::grey_window` meets its contract: a number of the table, or the window. Assumes nothing.
+use mathlib.Core.Path.{sym, _∙_}
+use borrow.Author.Needs.{needs}
+use Rattle.pipeline.proofs.Accepted.{grey-ready, passable}
+use Rattle.pipeline.proofs.GreyWindow.{grey-shape, grey-bad, grey-tiles, grey-gamma, grey-unrefused}
+use Rattle.pipeline.proofs.windows.grey_window.Statement.{statement}
+use Rattle.pipeline.proofs.windows.grey_window.Tie as tie
+
+grey-refusal-requires : tie.Need-grey-refusal-requires
+grey-refusal-requires c κs = search needs
+
+returns : tie.Need-returns
+returns c = grey-shape _ _ _ _ _ _ _ _ (c .before .grey-refusal .ensures) (c .if1 .taken)
+
+band-window-requires : tie.Need-band-window-requires
+band-window-requires c κs = passable (grey-ready _ _ _ _ _ _ _ _ (sym (c .before .grey-refusal .ensures) ∙ c .if1 .left) .band)
+
+enum-known-window : tie.Need-enum-known-window
+enum-known-window c = search needs
+
+returns-2 : tie.Need-returns-2
+returns-2 c =
+    let w = c .before .before .before in
+    let b = w .before in
+    grey-bad _ _ _ _ _ _ _ (sym (b .before .grey-refusal .ensures) ∙ b .if1 .left) _ (w .band-window .ensures) _ (c .before .window .given .1)
+
+tiles-refused-requires : tie.Need-tiles-refused-requires
+tiles-refused-requires c κs =
+    let b = c .before .before in
+    let s = grey-ready _ _ _ _ _ _ _ _ (sym (b .before .grey-refusal .ensures) ∙ b .if1 .left) .band in
+    (s .tall, s .wide)
+
+returns-3 : tie.Need-returns-3
+returns-3 c =
+    let k = c .before .before in
+    let w = k .before in
+    let b = w .before in
+    grey-tiles _ _ _ _ _ _ _ (sym (b .before .grey-refusal .ensures) ∙ b .if1 .left) _ (w .band-window .ensures) (k .match .keys2)
+    (sym (c .before .tiles-refused .ensures) ∙ c .if2 .taken)
+
+gamma-refused-requires : tie.Need-gamma-refused-requires
+gamma-refused-requires c κs = search needs
+
+returns-4 : tie.Need-returns-4
+returns-4 c =
+    let t = c .before .before in
+    let k = t .before .before in
+    let w = k .before in
+    let b = w .before in
+    grey-gamma _ _ _ _ _ _ _ (sym (b .before .grey-refusal .ensures) ∙ b .if1 .left) _ (w .band-window .ensures) (k .match .keys2)
+    (sym (t .before .tiles-refused .ensures) ∙ t .if2 .left) (sym (c .before .gamma-refused .ensures) ∙ c .if3 .taken)
+
+returns-5 : tie.Need-returns-5
+returns-5 c =
+    let t = c .before .before in
+    let k = t .before .before in
+    let w = k .before in
+    let b = w .before in
+    grey-unrefused _ _ _ _ _ _ _ (sym (b .before .grey-refusal .ensures) ∙ b .if1 .left) _ (w .band-window .ensures) (k .match .keys2)
+    (sym (t .before .tiles-refused .ensures) ∙ t .if2 .left) (sym (c .before .gamma-refused .ensures) ∙ c .if3 .left)
+
+pub grey-window-spec : {M : Type 1} → statement M
+grey-window-spec =
+    tie.close
+    (tie.spec
+    grey-refusal-requires
+    returns
+    band-window-requires
+    enum-known-window
+    returns-2
+    tiles-refused-requires
+    returns-3
+    gamma-refused-requires
+    returns-4
+    returns-5)

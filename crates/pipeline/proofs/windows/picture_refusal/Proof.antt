@@ -1,0 +1,52 @@
+-- `pipeline::windows::picture_refusal` meets its contract, test by test. Assumes nothing.
+use mathlib.Core.Path.{sym, _∙_}
+use borrow.Author.Needs.{needs}
+use Rattle.spec.specs.Answer.{firstOf}
+use Rattle.raster.proofs.Bands.{sides-accepted}
+use Rattle.pipeline.proofs.windows.picture_refusal.Statement.{statement}
+use Rattle.pipeline.proofs.windows.picture_refusal.Tie as tie
+
+sides-refused-requires : tie.Need-sides-refused-requires
+sides-refused-requires c κs = search needs
+
+returns : tie.Need-returns
+unfolding firstOf
+returns c = rw (sym (c .before .sides-refused .ensures) ∙ c .if1 .taken)
+
+picture-lengths-refused-requires : tie.Need-picture-lengths-refused-requires
+picture-lengths-refused-requires c κs = sides-accepted _ _ (sym (c .before .sides-refused .ensures) ∙ c .if1 .left)
+
+returns-2 : tie.Need-returns-2
+unfolding firstOf
+returns-2 c =
+    let s = c .before .before in
+    rw (sym (s .before .sides-refused .ensures) ∙ s .if1 .left, sym (c .before .picture-lengths-refused .ensures) ∙ c .if2 .taken)
+
+either-marks-refused-requires : tie.Need-either-marks-refused-requires
+either-marks-refused-requires c κs = search needs
+
+returns-3 : tie.Need-returns-3
+unfolding firstOf
+returns-3 c =
+    let l = c .before .before in
+    let s = l .before .before in
+    rw (sym (s .before .sides-refused .ensures) ∙ s .if1 .left, sym (l .before .picture-lengths-refused .ensures) ∙ l .if2 .left, sym (c .before .either-marks-refused .ensures) ∙ c .if3 .taken)
+
+returns-4 : tie.Need-returns-4
+unfolding firstOf
+returns-4 c =
+    let l = c .before .before in
+    let s = l .before .before in
+    rw (sym (s .before .sides-refused .ensures) ∙ s .if1 .left, sym (l .before .picture-lengths-refused .ensures) ∙ l .if2 .left, sym (c .before .either-marks-refused .ensures) ∙ c .if3 .left)
+
+pub picture-refusal-spec : {M : Type 1} → statement M
+picture-refusal-spec =
+    tie.close
+    (tie.spec
+    sides-refused-requires
+    returns
+    picture-lengths-refused-requires
+    returns-2
+    either-marks-refused-requires
+    returns-3
+    returns-4)

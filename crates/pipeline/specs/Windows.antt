@@ -1,0 +1,59 @@
+-- What the calls know before they write: their windows, with the refusals folded in. Definitions only.
+use Prim.Native.Nat.{ℕ, zero, suc, _*_}
+use mathlib.Core.Bool.{Bool, true, false, _&&_, _||_}
+use mathlib.Core.List.{List}
+use lib.Ieee.{Float}
+use Rattle.types.specs.declared.AutoscaleStrategy.{AutoscaleStrategy}
+use Rattle.types.specs.declared.WindowAnswer.{WindowAnswer}
+use Rattle.types.specs.declared.WindowAnswer.the-variants.{Window, Blank, Refused}
+use Rattle.spec.specs.Answer.{firstOf}
+use Rattle.spec.specs.Grey.{greyTests}
+use Rattle.spec.specs.Picture.{Lent, pictureTests}
+use Rattle.spec.specs.Pixels.{pixels}
+use Rattle.spec.specs.Refusals.{notNamed, unlike, workUnlike, badSide}
+use Rattle.spec.specs.Statistics.{statisticsOf}
+use Rattle.spec.specs.Strategies.{isClahe}
+use Rattle.spec.specs.Window.{windowOf, pictureWindow}
+use Rattle.pipeline.specs.declared.windows.PictureWindows.{PictureWindows}
+use Rattle.pipeline.specs.declared.windows.PictureWindows.the-variants as Both
+
+-- whether there is a window, so a valid pixel
+unfoldable pub hasWindow : WindowAnswer → Bool
+hasWindow (Window low high range gamma) = true
+hasWindow Blank = false
+hasWindow (Refused k) = false
+
+-- 5, of a band with this window
+unfoldable pub tilesRefused : AutoscaleStrategy → ℕ → ℕ → WindowAnswer → Bool
+tilesRefused strategy rows cols w = isClahe strategy && hasWindow w && (badSide rows || badSide cols)
+
+-- a refusal by its number, or what is answered where no number applies
+unfoldable pub unless : {A : Type 0} → (ℕ → A) → ℕ → A → A
+unless refuse zero a = a
+unless refuse (suc k) a = refuse (suc k)
+
+-- the window of a grey call, or the number that refuses the call
+unfoldable pub greyWindow : AutoscaleStrategy → ℕ → ℕ → List ℕ → List Float → ℕ → ℕ → WindowAnswer
+greyWindow strategy rows cols marks db out work =
+    let px = pixels marks db in
+    let w = windowOf strategy (statisticsOf px) in
+    unless Refused (firstOf 1 (greyTests strategy rows cols marks db out work px w)) w
+
+-- the lengths lent to a picture
+abbrev pub lentLengths : ℕ → ℕ → ℕ → ℕ → Lent
+lentLengths g1 g2 rgb w = record { grey1 = g1; grey2 = g2; colours = rgb; work = w }
+
+-- 2 of a picture, as `pictureTests` has it
+abbrev pub lengthsUnlike : AutoscaleStrategy → ℕ → ℕ → List ℕ → List Float → List ℕ → List Float → Lent → Bool
+lengthsUnlike strategy rows cols marks1 db1 marks2 db2 lent =
+    notNamed rows cols marks1 db1 || notNamed rows cols marks2 db2 || unlike (lent .grey1) (rows * cols)
+    || unlike (lent .grey2) (rows * cols) || unlike (lent .colours) (3 * (rows * cols)) || workUnlike strategy (lent .work)
+
+-- both windows of a picture, or the number that refuses the call
+unfoldable pub pictureWindows : AutoscaleStrategy → ℕ → ℕ → List ℕ → List Float → List ℕ → List Float → Lent → PictureWindows
+pictureWindows strategy rows cols marks1 db1 marks2 db2 lent =
+    let px1 = pixels marks1 db1 in
+    let px2 = pixels marks2 db2 in
+    let w1 = pictureWindow strategy true (statisticsOf px1) in
+    let w2 = pictureWindow strategy false (statisticsOf px2) in
+    unless Both.Refused (firstOf 1 (pictureTests strategy rows cols marks1 db1 marks2 db2 lent px1 px2 w1 w2)) (Both.Windows w1 w2)

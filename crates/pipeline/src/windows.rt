@@ -1,0 +1,199 @@
+// The refusals of a call in the table's order, and the windows of its bands: all that is known before anything is written.
+ghost use mathlib.Core.Path.{_≡_};
+ghost use mathlib.Core.Bool.{_||_};
+ghost use mathlib.Core.List.{_∷_, []};
+ghost use Prim.Native.Nat.{_*_, _≤_};
+ghost use Rattle.spec.specs.Answer.{firstOf};
+ghost use Rattle.spec.specs.Refusals.{tooWide, notNamed, unlike, workUnlike, badMark};
+ghost use Rattle.spec.specs.Window.{otherGamma};
+ghost use Rattle.pipeline.specs.Windows.{tilesRefused, greyWindow, lentLengths, lengthsUnlike, pictureWindows};
+use crate::strategies;
+use types::{AutoscaleStrategy, WindowAnswer};
+
+// Both windows of a picture, or the number that refuses the call.
+pub enum PictureWindows {
+    Windows(WindowAnswer, WindowAnswer),
+    Refused(u8),
+}
+
+// 2: whether Clahe's work is not 16,384 long.
+fn work_refused(strategy: AutoscaleStrategy, work: usize) -> bool
+    ensures { λ r. ⌜ r ≡ workUnlike strategy work ⌝ }
+{
+    if strategies::is_clahe(strategy) {
+        return work != 16384;
+    }
+    false
+}
+
+// 5: whether Clahe refuses a side, of a band with this window.
+fn tiles_refused(strategy: AutoscaleStrategy, rows: usize, cols: usize, window: WindowAnswer) -> bool
+    requires { ⌜ (rows ≤ 4096) × (cols ≤ 4096) ⌝ }
+    ensures { λ r. ⌜ r ≡ tilesRefused strategy rows cols window ⌝ }
+{
+    let WindowAnswer::Window {
+        low: _,
+        high: _,
+        range: _,
+        gamma: _,
+    } = window
+    else {
+        return false;
+    };
+    if strategies::is_clahe(strategy) {
+        return clahe::tiles::tiles_refused(rows, cols);
+    }
+    false
+}
+
+// 2 of a grey call: whether a lent length is not the one named.
+fn grey_lengths_refused(rows: usize, cols: usize, strategy: AutoscaleStrategy, db: &[f64], valid_mask: &[u8], out: usize, work: usize) -> bool
+    requires { ⌜ (rows ≤ 4096) × (cols ≤ 4096) ⌝ }
+    ensures { λ r. ⌜ r ≡ (notNamed rows cols (now («valid_mask» .entry)) (now (db .entry)) || unlike out (rows * cols) || workUnlike strategy work) ⌝ }
+{
+    if raster::lengths_refused(rows, cols, db, valid_mask) {
+        return true;
+    }
+    if out != rows * cols {
+        return true;
+    }
+    work_refused(strategy, work)
+}
+
+// The smallest of the numbers 1 to 3 that applies to a grey call, 0 if none does.
+fn grey_refusal(rows: usize, cols: usize, strategy: AutoscaleStrategy, db: &[f64], valid_mask: &[u8], out: usize, work: usize) -> u8
+    ensures { λ r. ⌜ r ≡ firstOf 1 (
+        tooWide rows cols ∷ (notNamed rows cols (now («valid_mask» .entry)) (now (db .entry)) || unlike out (rows * cols) || workUnlike strategy work)
+        ∷ badMark (now («valid_mask» .entry)) ∷ []) ⌝ }
+{
+    if raster::sides_refused(rows, cols) {
+        return 1;
+    }
+    if grey_lengths_refused(rows, cols, strategy, db, valid_mask, out, work) {
+        return 2;
+    }
+    if raster::marks_refused(valid_mask) {
+        return 3;
+    }
+    0
+}
+
+// The window of a grey call, or the number that refuses the call.
+pub fn grey_window(rows: usize, cols: usize, strategy: AutoscaleStrategy, db: &[f64], valid_mask: &[u8], out: usize, work: usize) -> WindowAnswer
+    ensures { λ r. ⌜ r ≡ greyWindow strategy rows cols (now («valid_mask» .entry)) (now (db .entry)) out work ⌝ }
+{
+    let refusal = grey_refusal(rows, cols, strategy, db, valid_mask, out, work);
+    if refusal != 0 {
+        return WindowAnswer::Refused(refusal);
+    }
+    let window = autoscale::band::band_window(strategy, db, valid_mask);
+    if let WindowAnswer::Refused(k) = window {
+        return WindowAnswer::Refused(k);
+    }
+    if tiles_refused(strategy, rows, cols, window) {
+        return WindowAnswer::Refused(5);
+    }
+    if autoscale::gamma_refused(window) {
+        return WindowAnswer::Refused(6);
+    }
+    window
+}
+
+// 2 of a picture: whether a lent length is not the one named.
+fn picture_lengths_refused(rows: usize, cols: usize, strategy: AutoscaleStrategy, db1: &[f64], valid_mask1: &[u8], db2: &[f64], valid_mask2: &[u8], grey1: usize, grey2: usize, rgb: usize, work: usize) -> bool
+    requires { ⌜ (rows ≤ 4096) × (cols ≤ 4096) ⌝ }
+    ensures { λ r. ⌜ r ≡ lengthsUnlike strategy rows cols (now («valid_mask1» .entry)) (now (db1 .entry)) (now («valid_mask2» .entry)) (now (db2 .entry)) (lentLengths grey1 grey2 rgb work) ⌝ }
+{
+    if raster::lengths_refused(rows, cols, db1, valid_mask1) {
+        return true;
+    }
+    if raster::lengths_refused(rows, cols, db2, valid_mask2) {
+        return true;
+    }
+    let n = rows * cols;
+    if grey1 != n {
+        return true;
+    }
+    if grey2 != n {
+        return true;
+    }
+    if rgb != 3 * n {
+        return true;
+    }
+    work_refused(strategy, work)
+}
+
+// 3 of a picture.
+fn either_marks_refused(valid_mask1: &[u8], valid_mask2: &[u8]) -> bool
+    ensures { λ r. ⌜ r ≡ (badMark (now («valid_mask1» .entry)) || badMark (now («valid_mask2» .entry))) ⌝ }
+{
+    if raster::marks_refused(valid_mask1) {
+        return true;
+    }
+    raster::marks_refused(valid_mask2)
+}
+
+// The smallest of the numbers 1 to 3 that applies to a picture, 0 if none does.
+fn picture_refusal(rows: usize, cols: usize, strategy: AutoscaleStrategy, db1: &[f64], valid_mask1: &[u8], db2: &[f64], valid_mask2: &[u8], grey1: usize, grey2: usize, rgb: usize, work: usize) -> u8
+    ensures { λ r. ⌜ r ≡ firstOf 1 (
+        tooWide rows cols
+        ∷ lengthsUnlike strategy rows cols (now («valid_mask1» .entry)) (now (db1 .entry)) (now («valid_mask2» .entry)) (now (db2 .entry)) (lentLengths grey1 grey2 rgb work)
+        ∷ (badMark (now («valid_mask1» .entry)) || badMark (now («valid_mask2» .entry))) ∷ []) ⌝ }
+{
+    if raster::sides_refused(rows, cols) {
+        return 1;
+    }
+    if picture_lengths_refused(rows, cols, strategy, db1, valid_mask1, db2, valid_mask2, grey1, grey2, rgb, work) {
+        return 2;
+    }
+    if either_marks_refused(valid_mask1, valid_mask2) {
+        return 3;
+    }
+    0
+}
+
+// 5 of a picture, of bands with these windows.
+fn either_tiles_refused(strategy: AutoscaleStrategy, rows: usize, cols: usize, window1: WindowAnswer, window2: WindowAnswer) -> bool
+    requires { ⌜ (rows ≤ 4096) × (cols ≤ 4096) ⌝ }
+    ensures { λ r. ⌜ r ≡ (tilesRefused strategy rows cols window1 || tilesRefused strategy rows cols window2) ⌝ }
+{
+    if tiles_refused(strategy, rows, cols, window1) {
+        return true;
+    }
+    tiles_refused(strategy, rows, cols, window2)
+}
+
+// 6 of a picture.
+fn either_gamma_refused(window1: WindowAnswer, window2: WindowAnswer) -> bool
+    ensures { λ r. ⌜ r ≡ (otherGamma window1 || otherGamma window2) ⌝ }
+{
+    if autoscale::gamma_refused(window1) {
+        return true;
+    }
+    autoscale::gamma_refused(window2)
+}
+
+// Both windows of a picture, or the number that refuses the call: each number is tested over both bands before the next. Band 1 counts as co-pol.
+pub fn picture_windows(rows: usize, cols: usize, strategy: AutoscaleStrategy, db1: &[f64], valid_mask1: &[u8], db2: &[f64], valid_mask2: &[u8], grey1: usize, grey2: usize, rgb: usize, work: usize) -> PictureWindows
+    ensures { λ r. ⌜ r ≡ pictureWindows strategy rows cols (now («valid_mask1» .entry)) (now (db1 .entry)) (now («valid_mask2» .entry)) (now (db2 .entry)) (lentLengths grey1 grey2 rgb work) ⌝ }
+{
+    let refusal = picture_refusal(rows, cols, strategy, db1, valid_mask1, db2, valid_mask2, grey1, grey2, rgb, work);
+    if refusal != 0 {
+        return PictureWindows::Refused(refusal);
+    }
+    let window1 = autoscale::band::band_picture_window(strategy, true, db1, valid_mask1);
+    if let WindowAnswer::Refused(k) = window1 {
+        return PictureWindows::Refused(k);
+    }
+    let window2 = autoscale::band::band_picture_window(strategy, false, db2, valid_mask2);
+    if let WindowAnswer::Refused(k) = window2 {
+        return PictureWindows::Refused(k);
+    }
+    if either_tiles_refused(strategy, rows, cols, window1, window2) {
+        return PictureWindows::Refused(5);
+    }
+    if either_gamma_refused(window1, window2) {
+        return PictureWindows::Refused(6);
+    }
+    PictureWindows::Windows(window1, window2)
+}
