@@ -55,10 +55,11 @@ module _ (limit : Float) (p : T (le zero64 limit)) where
       let f = count-finite h b in
       let k = le-of-lt limit (ofCount h) l in
       let g = finite-between zero64 limit (ofCount h) tt f p k in
-      let e : sub binary64 (ofCount h) zero64 ≡ ofCount h = ap (sub binary64 (ofCount h)) (sym zero-count) ∙ count-sub h 0 b zero-le ∙ ap ofCount (sub-zero h) in
-      (sub-nonneg binary64 (ofCount h) limit f g k,
-       subst (λ (z : Float). T (le (sub binary64 (ofCount h) limit) z)) e
-       (sub-le-both binary64 (ofCount h) limit (ofCount h) zero64 f g f tt (le-refl' (ofCount h) (number-of-finite (ofCount h) f)) p))
+      let e : sub binary64 (ofCount h) zero64 ≡ ofCount h = ap (sub binary64 (ofCount h)) (sym zero-count) ∙ count-sub h 0 b zero-le ∙ ap ofCount (sub-zero h) in (
+        sub-nonneg binary64 (ofCount h) limit f g k,
+        subst (λ (z : Float). T (le (sub binary64 (ofCount h) limit) z)) e
+            (sub-le-both binary64 (ofCount h) limit (ofCount h) zero64 f g f tt (le-refl' (ofCount h) (number-of-finite (ofCount h) f)) p),
+      )
 
   -- one more bin's excess
   more : (a h : ℕ) (sum : Float) → a + h ≤ 2 ^ 53 → T (le zero64 sum) → T (le sum (ofCount a)) → T (lt limit (ofCount h))
@@ -70,10 +71,11 @@ module _ (limit : Float) (p : T (le zero64 limit)) where
       let fh = count-finite h (omega arith) in
       let fs = finite-between zero64 sum (ofCount a) tt fa l m in
       let d = sub binary64 (ofCount h) limit in
-      let fd = finite-between zero64 d (ofCount h) tt fh (o .0) (o .1) in
-      (add-le-both binary64 zero64 zero64 sum d tt tt fs fd l (o .0),
-       subst (λ (z : Float). T (le (add binary64 sum d) z)) (count-add a h (omega arith) (omega arith))
-       (add-le-both binary64 sum d (ofCount a) (ofCount h) fs fd fa fh m (o .1)))
+      let fd = finite-between zero64 d (ofCount h) tt fh (o .0) (o .1) in (
+        add-le-both binary64 zero64 zero64 sum d tt tt fs fd l (o .0),
+        subst (λ (z : Float). T (le (add binary64 sum d) z)) (count-add a h (omega arith) (omega arith))
+            (add-le-both binary64 sum d (ofCount a) (ofCount h) fs fd fa fh m (o .1)),
+      )
 
   excess-between : (hs : List ℕ) (a : ℕ) (sum : Float) → a + sumOf hs ≤ 2 ^ 53 → Between a sum → Between (a + sumOf hs) (excess limit sum hs)
   unfolding excess sumOf
@@ -108,9 +110,12 @@ part-le n h =
 pub each-most : (n : ℕ) (x : Float) → n ≤ 2 ^ 53 → T (le x (ofCount n)) → toUnsigned 64 (div binary64 x levels64) ≤ n
 unfolding ofBits
 each-most n x h l =
-    omega (arith, count-back 64 n h (omega arith),
+    omega (
+      arith,
+      count-back 64 n h (omega arith),
       toUnsigned-le 64 (div binary64 x levels64) (ofCount n)
-      (le-trans' (div binary64 x levels64) (div binary64 (ofCount n) levels64) (ofCount n) (div-le binary64 levels64 tt x (ofCount n) l) (part-le n h)))
+          (le-trans' (div binary64 x levels64) (div binary64 (ofCount n) levels64) (ofCount n) (div-le binary64 levels64 tt x (ofCount n) l) (part-le n h)),
+    )
 
 -- ---- a clipped bin
 

@@ -22,7 +22,7 @@ module _ (g : ℕ → ℕ → ℕ) (old : List ℕ) where
       record {
         size = length-set xs i x ∙ t .size;
         new = kept-or-stored (λ k y. y ≡ g k (getD old k 0)) 0 xs i x h (t .new) (e ∙ ap (g i) (t .same i (omega arith)));
-        same = λ k l. getD-set-other xs i k x 0 (λ d. omega arith) ∙ t .same k (omega arith)
+        same = λ k l. getD-set-other xs i k x 0 (λ d. omega arith) ∙ t .same k (omega arith);
       }
 
   pub turned-all : (i : ℕ) (xs ys : List ℕ) → Turned i xs → length old ≤ i → length ys ≡ length old → ((k : ℕ) → k < length old → getD ys k 0 ≡ g k (getD old k 0)) → xs ≡ ys

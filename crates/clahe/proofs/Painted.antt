@@ -66,15 +66,16 @@ module _ (full : Float) (work : List Float) (rows cols : ℕ) (low high range : 
         let m = getD-take cols (drop a marks) c 0 g ∙ getD-drop a marks c 0 in
         let d = getD-take cols (drop a db) c nan g ∙ getD-drop a db c nan in
         ap (λ (p : TilePosition). shade full work p (x c) (normalPixel low high range (pixel (getD (take cols (drop a marks)) c 0) (getD (take cols (drop a db)) c nan))))
-          (e ∙ ap (positionOf (tileSide rows)) (sym (row-of r c cols g)))
+        (e ∙ ap (positionOf (tileSide rows)) (sym (row-of r c cols g)))
         ∙ ap (λ (p : TilePosition). shade full work Y p (normalPixel low high range (pixel (getD (take cols (drop a marks)) c 0) (getD (take cols (drop a db)) c nan))))
-          (f c g ∙ ap (positionOf (tileSide cols)) (sym (column-of r c cols g)))
+        (f c g ∙ ap (positionOf (tileSide cols)) (sym (column-of r c cols g)))
         ∙ ap (λ (n : ℕ). shade full work Y X (normalPixel low high range (pixel n (getD (take cols (drop a db)) c nan)))) m
         ∙ ap (λ (v : Float). shade full work Y X (normalPixel low high range (pixel (getD marks (a + c) 0) v))) d
         ∙ ap (shade full work Y X) (sym (band-at low high range marks db (a + c) (w .marks-length ∙ sym (w .db-length)) (omega (arith, w .db-length, inside c g))))
       where
         Y : TilePosition
         Y = positionOf (tileSide rows) ((r * cols + c) / cols)
+
         X : TilePosition
         X = positionOf (tileSide cols) ((r * cols + c) % cols)
 
@@ -90,16 +91,21 @@ module _ (full : Float) (work : List Float) (rows cols : ℕ) (low high range : 
       where
         a : ℕ
         a = r * cols
+
         fits : a ≤ length out
         fits = omega (arith, next-times r cols, mul-le-mul-right {m = r + 1} {n = rows} cols (omega arith))
+
         S : ℕ → ℕ
         S = shadeAt full work y x low high range (take cols (drop (r * cols) marks)) (take cols (drop (r * cols) db))
+
         size : length ys ≡ cols
         size = ap length q ∙ length-map (places (length (take cols (drop (r * cols) db)))) S ∙ places-length 0 (length (take cols (drop (r * cols) db))) ∙ row-size
+
         at : (c : ℕ) → c < cols → getD (take a out ++ (ys ++ zs)) (a + c) 0 ≡ valueAt full work rows cols Px (a + c)
         at c g =
             put-inside 0 a out ys zs fits c (omega (arith, size)) ∙ ap (λ (t : List ℕ). getD t c 0) q
             ∙ places-at S 0 (length (take cols (drop (r * cols) db))) c (omega (arith, row-size)) ∙ row-value c g
+
         go : Dec (i < a) → getD (take a out ++ (ys ++ zs)) i 0 ≡ valueAt full work rows cols Px i
         go (yes b) = put-before 0 a out ys zs fits i b ∙ all i b
         go (no b) =
@@ -115,7 +121,7 @@ module _ (full : Float) (work : List Float) (rows cols : ℕ) (low high range : 
       let m = places-length 0 (length Px) in
       ext-getD 0 out (zipWith F (places (length Px)) Px) (n ∙ sym size ∙ sym (zip-length F (places (length Px)) Px m))
       (λ i h. all i (omega arith)
-        ∙ sym (zip-at F 0 off 0 (places (length Px)) Px i (omega (arith, size, m)) (omega (arith, size)) ∙ ap (λ (k : ℕ). F k (getD Px i off)) (nth (length Px) i (omega (arith, size)))))
+      ∙ sym (zip-at F 0 off 0 (places (length Px)) Px i (omega (arith, size, m)) (omega (arith, size)) ∙ ap (λ (k : ℕ). F k (getD Px i off)) (nth (length Px) i (omega (arith, size)))))
 
 -- ---- the work list for the tables
 
@@ -126,8 +132,12 @@ module _ (tables : List (List ℕ)) (work : List Float) (s : Holds tables work) 
   pub sampled-is : (y x : TilePosition) (b : ℕ) → Among y → Among x → b < 256 → sampled work y x b ≡ sample tables y x b
   unfolding sampled sample
   sampled-is y x b h k g =
-      cc (tile-sum (y .first) (x .first) b (h .0) (k .0) g, tile-sum (y .first) (x .second) b (h .0) (k .1) g,
-          tile-sum (y .second) (x .first) b (h .1) (k .0) g, tile-sum (y .second) (x .second) b (h .1) (k .1) g)
+      cc (
+        tile-sum (y .first) (x .first) b (h .0) (k .0) g,
+        tile-sum (y .first) (x .second) b (h .0) (k .1) g,
+        tile-sum (y .second) (x .first) b (h .1) (k .0) g,
+        tile-sum (y .second) (x .second) b (h .1) (k .1) g,
+      )
 
   level-below : (u : Float) → levelOf u < 256
   unfolding levelOf

@@ -89,6 +89,7 @@ put-table g xs ys zs k h e all j b l m = go j l b m
   where
     size : length ys ≡ 256
     size = ap length e ∙ length-map (places 256) (g k) ∙ places-length 0 256
+
     go : (j : ℕ) → j < k + 1 → (b : ℕ) → b < 256 → getD (take (k * 256) xs ++ (ys ++ zs)) (j * 256 + b) nan ≡ g j b
     go =
         below-more (λ (j : ℕ). (b : ℕ) → b < 256 → getD (take (k * 256) xs ++ (ys ++ zs)) (j * 256 + b) nan ≡ g j b) k

@@ -89,8 +89,14 @@ module _ (x : Float) (n : ℕ) (b : n ≤ 2 ^ 44) (l : T (le zero64 x)) (h : T (
   -- less than 256 is left
   left : plus x ≤ each * 256 * den x + 256 * den x
   left =
-      omega (arith, lt-mul-div-succ (plus x) {b = 256 * den x} (omega (arith, den-pos x)), mul-le-mul-left {m = part + 1} {n = each + 1} (256 * den x) (omega (arith, part-each)),
-        mul-add (256 * den x) each 1, mul-comm (256 * den x) each, mul-assoc each 256 (den x))
+      omega (
+        arith,
+        lt-mul-div-succ (plus x) {b = 256 * den x} (omega (arith, den-pos x)),
+        mul-le-mul-left {m = part + 1} {n = each + 1} (256 * den x) (omega (arith, part-each)),
+        mul-add (256 * den x) each 1,
+        mul-comm (256 * den x) each,
+        mul-assoc each 256 (den x),
+      )
 
   -- what the bins have had is a count
   abbrev given : Float
@@ -131,16 +137,22 @@ module _ (x : Float) (n : ℕ) (b : n ≤ 2 ^ 44) (l : T (le zero64 x)) (h : T (
       let e : plus g * den x ≡ each * 256 * den x * den g = ap (λ (p : ℕ). p * den x) (count-plus (each * 256) (omega (arith, each-under))) ∙ mul-right-comm (each * 256) (den g) (den x) in
       rounds-le binary64 (sub binary64 x g) (ofCount 256) (plus x * den g + less g * den x) (less x * den g + plus g * den x) (den x * den g) 256 0 1
       (mul-pos (den-pos x) (den-pos g)) (lit< tt) (sub-rounds binary64 x g x-finite (value-finite g (each * 256) 1 v)) (count-rounds 256)
-      (omega (arith, e, ap (λ (p : ℕ). p * den x) (value-less g (each * 256) 1 v), mul-le-mul-right {m = plus x} {n = each * 256 * den x + 256 * den x} (den g) left,
-        add-mul (each * 256 * den x) (256 * den x) (den g), mul-assoc 256 (den x) (den g)))
+      (omega (
+        arith,
+        e,
+        ap (λ (p : ℕ). p * den x) (value-less g (each * 256) 1 v),
+        mul-le-mul-right {m = plus x} {n = each * 256 * den x + 256 * den x} (den g) left,
+        add-mul (each * 256 * den x) (256 * den x) (den g),
+        mul-assoc 256 (den x) (den g),
+      ))
 
   pub rest-most : rounded (sub binary64 x given) ≤ 256
   rest-most =
       let f = x-finite in
       rounded-most (sub binary64 x given)
       (le-trans' (sub binary64 x given) (sub binary64 x (ofCount (each * 256))) (ofCount 256)
-        (sub-le-both binary64 x given x (ofCount (each * 256)) f given-finite f (count-finite (each * 256) (omega (arith, each-under))) (le-refl' x (number-of-finite x f)) given-above)
-        less-count)
+      (sub-le-both binary64 x given x (ofCount (each * 256)) f given-finite f (count-finite (each * 256) (omega (arith, each-under))) (le-refl' x (number-of-finite x f)) given-above)
+      less-count)
 
 -- the rest of a tile's excess
 pub tile-rest-most : (limit : Float) → T (le zero64 limit) → (hs : List ℕ) → sumOf hs ≤ 2 ^ 44

@@ -19,8 +19,8 @@ pub record Holds (tables : List (List ℕ)) (work : List Float) : Type 0 where
 unfoldable pub sampled : List Float → TilePosition → TilePosition → ℕ → Float
 sampled work y x b =
     blend (y .weight)
-      (blend (x .weight) (sumIn work (y .first) (x .first) b) (sumIn work (y .first) (x .second) b))
-      (blend (x .weight) (sumIn work (y .second) (x .first) b) (sumIn work (y .second) (x .second) b))
+    (blend (x .weight) (sumIn work (y .first) (x .first) b) (sumIn work (y .first) (x .second) b))
+    (blend (x .weight) (sumIn work (y .second) (x .first) b) (sumIn work (y .second) (x .second) b))
 
 -- both tiles of a position are among the eight
 abbrev pub Among : TilePosition → Type 0

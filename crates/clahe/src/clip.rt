@@ -38,7 +38,11 @@ pub fn with_excess(sum: f64, h: u32, limit: f64) -> f64
     ensures { λ r. ⌜ r ≡ cond (lt limit (ofCount h)) (add binary64 sum (sub binary64 (ofCount h) limit)) sum ⌝ }
 {
     let size = h as f64;
-    if size > limit { sum + above(size, limit) } else { sum }
+    if size > limit {
+        sum + above(size, limit)
+    } else {
+        sum
+    }
 }
 
 // What all bins have above the limit.
@@ -59,7 +63,11 @@ pub fn excess(hist: &[u32], limit: f64) -> f64
 pub fn clipped(h: u32, limit: f64) -> u32
     ensures { λ r. ⌜ r ≡ Clahe.clipped limit h ⌝ }
 {
-    if h as f64 > limit { f64_as_u32(limit) } else { h }
+    if h as f64 > limit {
+        f64_as_u32(limit)
+    } else {
+        h
+    }
 }
 
 // Each bin clipped.

@@ -7,7 +7,14 @@ use super::sampling::tile_position;
 use types::TilePosition;
 
 // Writes the positions of cols columns.
-pub fn column_positions(side: usize, cols: usize, positions: &mut [f64], firsts: &mut [u16], seconds: &mut [u16], weights: &mut [f64])
+pub fn column_positions(
+    side: usize,
+    cols: usize,
+    positions: &mut [f64],
+    firsts: &mut [u16],
+    seconds: &mut [u16],
+    weights: &mut [f64],
+)
     requires { ⌜ (side ≤ 4096) × (cols ≤ 4096) ⌝ }
     requires { ⌜ (length (now positions) ≡ 4096) × (length (now firsts) ≡ 4096) × (length (now seconds) ≡ 4096) × (length (now weights) ≡ 4096) ⌝ }
     ensures { λ _. ⌜ Columns side cols (now (positions .exit)) (now (firsts .exit)) (now (seconds .exit)) (now (weights .exit)) ⌝ }
@@ -24,7 +31,13 @@ pub fn column_positions(side: usize, cols: usize, positions: &mut [f64], firsts:
 }
 
 // The position of column c.
-pub fn column(positions: &[f64], firsts: &[u16], seconds: &[u16], weights: &[f64], c: usize) -> TilePosition
+pub fn column(
+    positions: &[f64],
+    firsts: &[u16],
+    seconds: &[u16],
+    weights: &[f64],
+    c: usize,
+) -> TilePosition
     requires { ⌜ (length (now positions) ≡ 4096) × (length (now firsts) ≡ 4096) × (length (now seconds) ≡ 4096) × (length (now weights) ≡ 4096) × (c < 4096) ⌝ }
     ensures { λ r. ⌜ r ≡ columnAt (now (positions .entry)) (now (firsts .entry)) (now (seconds .entry)) (now (weights .entry)) c ⌝ }
 {

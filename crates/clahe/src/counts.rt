@@ -41,7 +41,18 @@ pub fn count_row(db: &[f64], valid_mask: &[u8], low: f64, high: f64, range: f64,
 }
 
 // The counts of the tile in row ty and column tx of tiles.
-pub fn count_tile(db: &[f64], valid_mask: &[u8], rows: usize, cols: usize, low: f64, high: f64, range: f64, ty: usize, tx: usize, hist: &mut [u32])
+pub fn count_tile(
+    db: &[f64],
+    valid_mask: &[u8],
+    rows: usize,
+    cols: usize,
+    low: f64,
+    high: f64,
+    range: f64,
+    ty: usize,
+    tx: usize,
+    hist: &mut [u32],
+)
     requires { ⌜ Raster rows cols (now «valid_mask») (now db) × (ty < 8) × (tx < 8) ⌝ }
     requires { ⌜ (length (now hist) ≡ 256) × ((k : ℕ) → getD (now hist) k 0 ≡ 0) ⌝ }
     ensures { λ _. ⌜ now (hist .exit) ≡ Clahe.tileCounts (Clahe.tilePixels rows cols (band low high range (now («valid_mask» .entry)) (now (db .entry))) ty tx) ⌝ }

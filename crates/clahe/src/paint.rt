@@ -26,7 +26,20 @@ pub fn shade_u8(u: f64, work: &[f64], y: TilePosition, x: TilePosition) -> u8
 }
 
 // A row at y, its columns in the four lists, at 8 bits.
-pub fn paint_row_u8(db: &[f64], valid_mask: &[u8], low: f64, high: f64, range: f64, work: &[f64], y: TilePosition, positions: &[f64], firsts: &[u16], seconds: &[u16], weights: &[f64], out: &mut [u8])
+pub fn paint_row_u8(
+    db: &[f64],
+    valid_mask: &[u8],
+    low: f64,
+    high: f64,
+    range: f64,
+    work: &[f64],
+    y: TilePosition,
+    positions: &[f64],
+    firsts: &[u16],
+    seconds: &[u16],
+    weights: &[f64],
+    out: &mut [u8],
+)
     requires { ⌜ (length (now db) ≤ 4096) × (length (now «valid_mask») ≡ length (now db)) × (length (now out) ≡ length (now db)) ⌝ }
     requires { ⌜ (length (now work) ≡ 16384) × Among y ⌝ }
     requires { ⌜ (length (now positions) ≡ 4096) × (length (now firsts) ≡ 4096) × (length (now seconds) ≡ 4096) × (length (now weights) ≡ 4096) ⌝ }
@@ -46,7 +59,21 @@ pub fn paint_row_u8(db: &[f64], valid_mask: &[u8], low: f64, high: f64, range: f
 }
 
 // All rows, the position of each worked out before its columns, at 8 bits.
-pub fn paint_rows_u8(db: &[f64], valid_mask: &[u8], rows: usize, cols: usize, low: f64, high: f64, range: f64, work: &[f64], positions: &[f64], firsts: &[u16], seconds: &[u16], weights: &[f64], out: &mut [u8])
+pub fn paint_rows_u8(
+    db: &[f64],
+    valid_mask: &[u8],
+    rows: usize,
+    cols: usize,
+    low: f64,
+    high: f64,
+    range: f64,
+    work: &[f64],
+    positions: &[f64],
+    firsts: &[u16],
+    seconds: &[u16],
+    weights: &[f64],
+    out: &mut [u8],
+)
     requires { ⌜ Raster rows cols (now «valid_mask») (now db) × (length (now work) ≡ 16384) × (length (now out) ≡ rows * cols) ⌝ }
     requires { ⌜ Columns (Clahe.tileSide cols) cols (now positions) (now firsts) (now seconds) (now weights) ⌝ }
     ensures { λ _. ⌜ now (out .exit) ≡ shades full8 (now (work .entry)) rows cols (band low high range (now («valid_mask» .entry)) (now (db .entry))) ⌝ }
@@ -57,7 +84,20 @@ pub fn paint_rows_u8(db: &[f64], valid_mask: &[u8], rows: usize, cols: usize, lo
         let y = tile_position(side, r);
         let at = r * cols;
         let end = at + cols;
-        paint_row_u8(&db[at..end], &valid_mask[at..end], low, high, range, work, y, positions, firsts, seconds, weights, &mut out[at..end]);
+        paint_row_u8(
+            &db[at..end],
+            &valid_mask[at..end],
+            low,
+            high,
+            range,
+            work,
+            y,
+            positions,
+            firsts,
+            seconds,
+            weights,
+            &mut out[at..end],
+        );
         r += 1;
     }
 }
@@ -72,7 +112,20 @@ pub fn shade_u16(u: f64, work: &[f64], y: TilePosition, x: TilePosition) -> u16
 }
 
 // A row at y at 16 bits.
-pub fn paint_row_u16(db: &[f64], valid_mask: &[u8], low: f64, high: f64, range: f64, work: &[f64], y: TilePosition, positions: &[f64], firsts: &[u16], seconds: &[u16], weights: &[f64], out: &mut [u16])
+pub fn paint_row_u16(
+    db: &[f64],
+    valid_mask: &[u8],
+    low: f64,
+    high: f64,
+    range: f64,
+    work: &[f64],
+    y: TilePosition,
+    positions: &[f64],
+    firsts: &[u16],
+    seconds: &[u16],
+    weights: &[f64],
+    out: &mut [u16],
+)
     requires { ⌜ (length (now db) ≤ 4096) × (length (now «valid_mask») ≡ length (now db)) × (length (now out) ≡ length (now db)) ⌝ }
     requires { ⌜ (length (now work) ≡ 16384) × Among y ⌝ }
     requires { ⌜ (length (now positions) ≡ 4096) × (length (now firsts) ≡ 4096) × (length (now seconds) ≡ 4096) × (length (now weights) ≡ 4096) ⌝ }
@@ -92,7 +145,21 @@ pub fn paint_row_u16(db: &[f64], valid_mask: &[u8], low: f64, high: f64, range: 
 }
 
 // All rows at 16 bits.
-pub fn paint_rows_u16(db: &[f64], valid_mask: &[u8], rows: usize, cols: usize, low: f64, high: f64, range: f64, work: &[f64], positions: &[f64], firsts: &[u16], seconds: &[u16], weights: &[f64], out: &mut [u16])
+pub fn paint_rows_u16(
+    db: &[f64],
+    valid_mask: &[u8],
+    rows: usize,
+    cols: usize,
+    low: f64,
+    high: f64,
+    range: f64,
+    work: &[f64],
+    positions: &[f64],
+    firsts: &[u16],
+    seconds: &[u16],
+    weights: &[f64],
+    out: &mut [u16],
+)
     requires { ⌜ Raster rows cols (now «valid_mask») (now db) × (length (now work) ≡ 16384) × (length (now out) ≡ rows * cols) ⌝ }
     requires { ⌜ Columns (Clahe.tileSide cols) cols (now positions) (now firsts) (now seconds) (now weights) ⌝ }
     ensures { λ _. ⌜ now (out .exit) ≡ shades full16 (now (work .entry)) rows cols (band low high range (now («valid_mask» .entry)) (now (db .entry))) ⌝ }
@@ -103,7 +170,20 @@ pub fn paint_rows_u16(db: &[f64], valid_mask: &[u8], rows: usize, cols: usize, l
         let y = tile_position(side, r);
         let at = r * cols;
         let end = at + cols;
-        paint_row_u16(&db[at..end], &valid_mask[at..end], low, high, range, work, y, positions, firsts, seconds, weights, &mut out[at..end]);
+        paint_row_u16(
+            &db[at..end],
+            &valid_mask[at..end],
+            low,
+            high,
+            range,
+            work,
+            y,
+            positions,
+            firsts,
+            seconds,
+            weights,
+            &mut out[at..end],
+        );
         r += 1;
     }
 }

@@ -47,7 +47,15 @@ pub fn sample(work: &[f64], y: TilePosition, x: TilePosition, b: usize) -> f64
     let bottom = y.second * 8;
     let left = x.first;
     let right = x.second;
-    let a = blend(x.weight, work[(top + left) * 256 + b], work[(top + right) * 256 + b]);
-    let z = blend(x.weight, work[(bottom + left) * 256 + b], work[(bottom + right) * 256 + b]);
+    let a = blend(
+        x.weight,
+        work[(top + left) * 256 + b],
+        work[(top + right) * 256 + b],
+    );
+    let z = blend(
+        x.weight,
+        work[(bottom + left) * 256 + b],
+        work[(bottom + right) * 256 + b],
+    );
     blend(y.weight, a, z)
 }

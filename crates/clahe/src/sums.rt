@@ -52,21 +52,51 @@ pub fn write_sums(hist: &[u32], sums: &mut [f64])
 }
 
 // The running sums of tile k, the tiles being counted row by row.
-pub fn tile_sums(db: &[f64], valid_mask: &[u8], rows: usize, cols: usize, low: f64, high: f64, range: f64, k: usize, sums: &mut [f64])
+pub fn tile_sums(
+    db: &[f64],
+    valid_mask: &[u8],
+    rows: usize,
+    cols: usize,
+    low: f64,
+    high: f64,
+    range: f64,
+    k: usize,
+    sums: &mut [f64],
+)
     requires { ⌜ Raster rows cols (now «valid_mask») (now db) × (k < 64) × (length (now sums) ≡ 256) ⌝ }
     ensures { λ _. ⌜ now (sums .exit) ≡ map (Clahe.sumAt (Clahe.tileTable rows cols (band low high range (now («valid_mask» .entry)) (now (db .entry))) k)) (places 256) ⌝ }
 {
     let ty = k / 8;
     let tx = k % 8;
     let mut hist = [0u32; 256];
-    count_tile(db, valid_mask, rows, cols, low, high, range, ty, tx, &mut hist);
+    count_tile(
+        db,
+        valid_mask,
+        rows,
+        cols,
+        low,
+        high,
+        range,
+        ty,
+        tx,
+        &mut hist,
+    );
     let limit = threshold(tile_size(rows, ty) * tile_size(cols, tx));
     clip(&mut hist, limit);
     write_sums(&hist, sums);
 }
 
 // The running sums of all tiles.
-pub fn write_tables(db: &[f64], valid_mask: &[u8], rows: usize, cols: usize, low: f64, high: f64, range: f64, work: &mut [f64])
+pub fn write_tables(
+    db: &[f64],
+    valid_mask: &[u8],
+    rows: usize,
+    cols: usize,
+    low: f64,
+    high: f64,
+    range: f64,
+    work: &mut [f64],
+)
     requires { ⌜ Raster rows cols (now «valid_mask») (now db) × (length (now work) ≡ 16384) ⌝ }
     ensures { λ _. ⌜ Holds (Clahe.tileTables rows cols (band low high range (now («valid_mask» .entry)) (now (db .entry)))) (now (work .exit)) ⌝ }
 {
@@ -74,7 +104,17 @@ pub fn write_tables(db: &[f64], valid_mask: &[u8], rows: usize, cols: usize, low
     while k < 64 {
         let at = k * 256;
         let end = at + 256;
-        tile_sums(db, valid_mask, rows, cols, low, high, range, k, &mut work[at..end]);
+        tile_sums(
+            db,
+            valid_mask,
+            rows,
+            cols,
+            low,
+            high,
+            range,
+            k,
+            &mut work[at..end],
+        );
         k += 1;
     }
 }

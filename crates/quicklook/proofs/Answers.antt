@@ -15,6 +15,24 @@ module _ {A B : Type 0} (f : A → List B) (a : Answer A) (old : List B) where
   pub same-list : (b : Answer A) (n k : ℕ) (new : List B) → a ≡ b → n ≡ k → k ≡ number b → new ≡ after f b old → (n ≡ number a) × (new ≡ after f a old)
   same-list b n k new e r m v = rw e (r ∙ m, v)
 
+-- and what else a call owes
+pub beside : {P Q W : Type 0} → P × Q → W → P × (Q × W)
+beside p w = (p .0, (p .1, w))
+
+-- three lent lists, and what else a call owes
+module _ {A B C D : Type 0} (f : A → List B) (g : A → List C) (h : A → List D) (old1 : List B) (old2 : List C) (old3 : List D) where
+  abbrev pub Lists : Answer A → ℕ → List B → List C → List D → Type 0 → Type 0
+  Lists a n new1 new2 new3 W = (n ≡ number a) × ((new1 ≡ after f a old1) × ((new2 ≡ after g a old2) × ((new3 ≡ after h a old3) × W)))
+
+  pub refused-lists : (a : Answer A) (k : ℕ) (W : Type 0) → a ≡ refused k → W → Lists a k old1 old2 old3 W
+  unfolding number after
+  refused-lists a k W e w = rw e (refl, (refl, (refl, (refl, w))))
+
+  pub same-lists :
+      (a b : Answer A) (n k : ℕ) (new1 : List B) (new2 : List C) (new3 : List D) (W′ W : Type 0)
+      → a ≡ b → n ≡ k → Lists b k new1 new2 new3 W′ → W → Lists a n new1 new2 new3 W
+  same-lists a b n k new1 new2 new3 W′ W e r v w = rw e (r ∙ v .0, (v .1 .0, (v .1 .1 .0, (v .1 .1 .1 .0, w))))
+
 -- a lent number and a lent list
 module _ {A B C : Type 0} (f : A → B) (g : A → List C) (a : Answer A) (old : B) (olds : List C) where
   pub refused-numbers : (k : ℕ) → a ≡ refused k → (k ≡ number a) × ((old ≡ kept f a old) × (olds ≡ after g a olds))

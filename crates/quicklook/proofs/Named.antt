@@ -1,16 +1,20 @@
 -- What a code names, and the call that it stands for. Assumes nothing.
 use mathlib.Core.Path.{_≡_, refl, sym, _∙_}
+use mathlib.Core.Bool.{Bool}
+use mathlib.Core.List.{List}
 use Prim.Native.Nat.{ℕ, suc, _≤_}
 use native.Mathlib.Omega.{arith}
 use lib.ListN.{List·getD-eq-default}
+use lib.Ieee.{Float}
 use Rattle.types.specs.declared.AutoscaleStrategy.{AutoscaleStrategy}
 use Rattle.types.specs.declared.SyntheticRgbMode.{SyntheticRgbMode}
 use Rattle.spec.specs.Answer.{Answer, refused}
+use Rattle.pipeline.specs.Work.{uses, Kept}
 use Rattle.quicklook.specs.declared.codes.StrategyCode.{StrategyCode}
 use Rattle.quicklook.specs.declared.codes.StrategyCode.the-variants as ByStrategy
 use Rattle.quicklook.specs.declared.codes.ModeCode.{ModeCode}
 use Rattle.quicklook.specs.declared.codes.ModeCode.the-variants as ByMode
-use Rattle.quicklook.specs.Codes.{strategies, modes, strategyCode, modeCode, withStrategy, withMode}
+use Rattle.quicklook.specs.Codes.{strategies, modes, strategyCode, modeCode, withStrategy, withMode, usesNamed}
 
 -- a code that is none of the first k is k or more
 pub past : {k n : ℕ} → k ≤ n → (n ≡ k → ⊥) → suc k ≤ n
@@ -33,6 +37,17 @@ module _ {A : Type 0} (code found : StrategyCode) (call : AutoscaleStrategy → 
   pub unnamed-strategy : found ≡ ByStrategy.Nothing → withStrategy code call ≡ refused 255
   unfolding withStrategy
   unnamed-strategy n = rw (sym e ∙ n) refl
+
+-- the work list as the call leaves it
+pub named-work :
+    {A : Type 0} (code found : StrategyCode) → found ≡ code → (strategy : AutoscaleStrategy) → found ≡ ByStrategy.Names strategy → (a b : Answer A) → a ≡ b
+    → (old new : List Float) → Kept (uses strategy b) old new → Kept (usesNamed code a) old new
+unfolding usesNamed
+named-work code found e strategy n a b same old new k = rw (sym e ∙ n, same) k
+
+-- a call that did not begin leaves its work list
+pub unchanged : (free : Bool) (old : List Float) → Kept free old old
+unchanged free old = record { size = refl; same = λ f. refl }
 
 module _ {A : Type 0} (code found : ModeCode) (call : SyntheticRgbMode → Answer A) (e : found ≡ code) where
   pub named-mode : (mode : SyntheticRgbMode) → found ≡ ByMode.Names mode → withMode code call ≡ call mode

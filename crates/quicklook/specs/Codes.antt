@@ -1,5 +1,6 @@
 -- The codes of strategies and modes at the calls for C. Definitions only.
 use Prim.Native.Nat.{ℕ}
+use mathlib.Core.Bool.{Bool, false}
 use mathlib.Core.List.{List, [], _∷_}
 use lib.ListN.{getD}
 use Rattle.types.specs.declared.AutoscaleStrategy.{AutoscaleStrategy}
@@ -7,6 +8,7 @@ use Rattle.types.specs.declared.AutoscaleStrategy.the-variants.{Standard, Robus
 use Rattle.types.specs.declared.SyntheticRgbMode.{SyntheticRgbMode}
 use Rattle.types.specs.declared.SyntheticRgbMode.the-variants as Mode
 use Rattle.spec.specs.Answer.{Answer, refused}
+use Rattle.pipeline.specs.Work.{uses}
 use Rattle.quicklook.specs.declared.codes.StrategyCode.{StrategyCode}
 use Rattle.quicklook.specs.declared.codes.StrategyCode.the-variants as ByStrategy
 use Rattle.quicklook.specs.declared.codes.ModeCode.{ModeCode}
@@ -35,3 +37,8 @@ withStrategy ByStrategy.Nothing call = refused 255
 unfoldable pub withMode : {A : Type 0} → ModeCode → (SyntheticRgbMode → Answer A) → Answer A
 withMode (ByMode.Names mode) call = call mode
 withMode ByMode.Nothing call = refused 255
+
+-- whether a call may write to the work list: never where its strategy's code names nothing
+unfoldable pub usesNamed : {A : Type 0} → StrategyCode → Answer A → Bool
+usesNamed (ByStrategy.Names strategy) a = uses strategy a
+usesNamed ByStrategy.Nothing a = false

@@ -4,4 +4,5 @@ mod replies; // replies.rt: a call's reply as its number
 mod whole; // whole.rt: marks, stretch and arithmetic, on whole lists
 mod pads; // pads.rt: padding to a square
 mod band; // band.rt: statistics and window of one band
-mod colours; // colours.rt: composition
+mod grey; // grey.rt: grey of one band at 8 and at 16 bits
+mod colours; // colours.rt: composition, and the picture of two bands

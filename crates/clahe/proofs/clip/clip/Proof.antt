@@ -21,7 +21,7 @@ each-fits c =
     let s = x .before .before .before in
     let hs = s .args .hist .now in
     let e : c .each-of .result ≡ toUnsigned 64 (div binary64 (excess (s .args .limit) zero64 hs) levels64) =
-        c .each-of .ensures ∙ ap (λ (o : Float). toUnsigned 64 (div binary64 o levels64)) (x .excess .ensures) in
+    c .each-of .ensures ∙ ap (λ (o : Float). toUnsigned 64 (div binary64 o levels64)) (x .excess .ensures) in
     omega (arith, e, each-most (sumOf hs) (excess (s .args .limit) zero64 hs) (omega arith) (excess-bounds (s .args .limit) (s .pre .2) hs (omega arith) .1))
 
 excess-requires : tie.Need-excess-requires
@@ -50,10 +50,11 @@ share-requires c κs =
     let b = c .before .before .before in
     let e = b .before .before .before .before in
     let s = e .before .before .before .before in
-    let hs = s .args .hist .now in
-    (omega (arith, s .pre .0, b .clip-bins .kept .0),
-     λ k. subst (λ (h : List ℕ). getD h k 0 + e .each-of .result + 1 < 2 ^ 32) (sym (b .clip-bins .ensures))
-       (share-fits (s .args .limit) hs (e .each-of .result) (s .pre .1) (each-fits e) k))
+    let hs = s .args .hist .now in (
+      omega (arith, s .pre .0, b .clip-bins .kept .0),
+      λ k. subst (λ (h : List ℕ). getD h k 0 + e .each-of .result + 1 < 2 ^ 32) (sym (b .clip-bins .ensures))
+          (share-fits (s .args .limit) hs (e .each-of .result) (s .pre .1) (each-fits e) k),
+    )
 
 same-length : tie.Need-same-length
 same-length c = search needs

@@ -38,10 +38,11 @@ loop-less c = search needs
 loop-again : tie.Need-loop-again Inv-loop μ-loop
 loop-again c =
     let l = c .before .before .before in
-    let a = l .before .before .args in
-    (omega arith,
-     l .loop .inv .1 ∙ excess-next (a .limit) (l .loop .sum) (a .hist .now) (l .loop .b) (omega arith)
-     ∙ ap (λ (s : Float). excess (a .limit) s (drop (l .loop .b + 1) (a .hist .now))) (sym (c .with-excess .ensures)))
+    let a = l .before .before .args in (
+      omega arith,
+      l .loop .inv .1 ∙ excess-next (a .limit) (l .loop .sum) (a .hist .now) (l .loop .b) (omega arith)
+          ∙ ap (λ (s : Float). excess (a .limit) s (drop (l .loop .b + 1) (a .hist .now))) (sym (c .with-excess .ensures)),
+    )
 
 returns : tie.Need-returns Inv-loop μ-loop
 returns c =

@@ -52,9 +52,11 @@ loop-less c = search needs
 loop-again : tie.Need-loop-again Inv-loop μ-loop
 loop-again c =
     let l = c .before .before .before in
-    let a = l .before .before .args in
-    (omega arith, simp length-set (omega arith),
-     turned-next (λ k h. h + a .each + cond (ltb k (a .rest)) 1 0) (a .hist .now) (l .loop .b) (l .loop .hist) _ (l .loop .inv .2) (omega arith) (c .with-share .ensures))
+    let a = l .before .before .args in (
+      omega arith,
+      simp length-set (omega arith),
+      turned-next (λ k h. h + a .each + cond (ltb k (a .rest)) 1 0) (a .hist .now) (l .loop .b) (l .loop .hist) _ (l .loop .inv .2) (omega arith) (c .with-share .ensures),
+    )
 
 same-length : tie.Need-same-length Inv-loop μ-loop
 same-length c = search needs

@@ -72,10 +72,15 @@ loop-again : tie.Need-loop-again Inv-loop μ-loop
 loop-again c =
     let p = c .before .before in
     let l = p .before .before in
-    let a = l .before .before .before .before .before .args in
-    (omega arith, simp length-set (omega arith), simp length-set (omega arith), simp length-set (omega arith), simp length-set (omega arith),
-     column-next (a .side) (l .loop .positions) (l .loop .firsts) (l .loop .seconds) (l .loop .weights) (l .loop .c) (p .tile-position .result) (p .tile-position .ensures)
-     (omega arith) (omega arith) (omega arith) (omega arith) (l .loop .inv .5))
+    let a = l .before .before .before .before .before .args in (
+      omega arith,
+      simp length-set (omega arith),
+      simp length-set (omega arith),
+      simp length-set (omega arith),
+      simp length-set (omega arith),
+      column-next (a .side) (l .loop .positions) (l .loop .firsts) (l .loop .seconds) (l .loop .weights) (l .loop .c) (p .tile-position .result) (p .tile-position .ensures)
+          (omega arith) (omega arith) (omega arith) (omega arith) (l .loop .inv .5),
+    )
 
 same-length : tie.Need-same-length Inv-loop μ-loop
 same-length c = search needs

@@ -72,15 +72,21 @@ loop-again c =
     let h = l .loop .hist in
     ⊎-elim
     (λ w.
-      rw (w .5)
-      (omega arith, simp length-set (omega arith), (λ k. omega (arith, added-most h (w .3 .result) (16777216 + i) (l .loop .inv .2) k)),
-       l .loop .inv .3 ∙ row-on (a .low) (a .high) (a .range) (a .valid-mask .now) (a .db .now) h i nan (omega arith) (omega arith) (w .0 .taken)
-       ∙ ap (λ (b : ℕ). stored (added b h) (levels (band (a .low) (a .high) (a .range) (drop (i + 1) (a .valid-mask .now)) (drop (i + 1) (a .db .now)))))
-         (sym (w .3 .ensures .0 ∙ ap levelOf (w .2 .ensures)))))
+    rw (w .5) (
+      omega arith,
+      simp length-set (omega arith),
+      (λ k. omega (arith, added-most h (w .3 .result) (16777216 + i) (l .loop .inv .2) k)),
+      l .loop .inv .3 ∙ row-on (a .low) (a .high) (a .range) (a .valid-mask .now) (a .db .now) h i nan (omega arith) (omega arith) (w .0 .taken)
+          ∙ ap (λ (b : ℕ). stored (added b h) (levels (band (a .low) (a .high) (a .range) (drop (i + 1) (a .valid-mask .now)) (drop (i + 1) (a .db .now)))))
+          (sym (w .3 .ensures .0 ∙ ap levelOf (w .2 .ensures))),
+    ))
     (λ w.
-      rw (w .1)
-      (omega arith, omega arith, (λ k. omega (arith, l .loop .inv .2 k)),
-       l .loop .inv .3 ∙ row-off (a .low) (a .high) (a .range) (a .valid-mask .now) (a .db .now) h i nan (omega arith) (omega arith) (w .0 .left)))
+    rw (w .1) (
+      omega arith,
+      omega arith,
+      (λ k. omega (arith, l .loop .inv .2 k)),
+      l .loop .inv .3 ∙ row-off (a .low) (a .high) (a .range) (a .valid-mask .now) (a .db .now) h i nan (omega arith) (omega arith) (w .0 .left),
+    ))
     (c .if1 .came)
 
 same-length : tie.Need-same-length Inv-loop μ-loop

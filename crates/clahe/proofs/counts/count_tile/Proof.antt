@@ -32,12 +32,13 @@ inside c =
     let e = c .before .before in
     let d = e .before in
     let s = d .before .before .before .before .before .before .before in
-    let a = s .args in
-    (tile-row (a .rows) (a .cols) (a .ty) (a .tx) _ (d .before .before .tile-size .result) _ _ (c .before .loop .r) (d .before .before .before .tile-start .ensures) (d .before .before .tile-size .ensures)
-      (d .before .tile-start2 .ensures) (d .tile-size2 .ensures) (c .loop-test .taken) (e .if1 .left),
-     times-most (a .rows) (a .cols) 4096 4096 (s .pre .0 .0 .tall) (s .pre .0 .0 .wide),
-     omega (arith, d .tile-size2 .ensures, tile-most (a .cols) (a .tx), s .pre .0 .0 .wide),
-     omega (arith, d .before .before .before .tile-start .ensures, tile-inside (a .rows) (a .ty) (c .before .loop .r) (omega (arith, d .before .before .tile-size .ensures)), s .pre .0 .0 .tall))
+    let a = s .args in (
+      tile-row (a .rows) (a .cols) (a .ty) (a .tx) _ (d .before .before .tile-size .result) _ _ (c .before .loop .r) (d .before .before .before .tile-start .ensures) (d .before .before .tile-size .ensures)
+          (d .before .tile-start2 .ensures) (d .tile-size2 .ensures) (c .loop-test .taken) (e .if1 .left),
+      times-most (a .rows) (a .cols) 4096 4096 (s .pre .0 .0 .tall) (s .pre .0 .0 .wide),
+      omega (arith, d .tile-size2 .ensures, tile-most (a .cols) (a .tx), s .pre .0 .0 .wide),
+      omega (arith, d .before .before .before .tile-start .ensures, tile-inside (a .rows) (a .ty) (c .before .loop .r) (omega (arith, d .before .before .tile-size .ensures)), s .pre .0 .0 .tall),
+    )
 
 tile-start-requires : tie.Need-tile-start-requires Inv-loop μ-loop
 tile-start-requires c κs = search needs
@@ -58,7 +59,7 @@ returns c =
     let a = s .args in
     let px = band (a .low) (a .high) (a .range) (a .valid-mask .now) (a .db .now) in
     sym (tile-narrow (a .rows) (a .cols) px (a .ty) (a .tx) (a .hist .now) _ _ _ _ (d .before .before .before .tile-start .ensures) (d .before .before .tile-size .ensures)
-      (d .before .tile-start2 .ensures) (d .tile-size2 .ensures) (c .if1 .taken))
+    (d .before .tile-start2 .ensures) (d .tile-size2 .ensures) (c .if1 .taken))
     ∙ tile-counts (a .rows) (a .cols) px (a .ty) (a .tx) (a .hist .now) (s .pre .1 .0) (s .pre .1 .1)
 
 loop-holds : tie.Need-loop-holds Inv-loop μ-loop
@@ -66,10 +67,13 @@ loop-holds c =
     let d = c .before in
     let s = d .before .before .before .before .before .before .before in
     let a = s .args in
-    let px = band (a .low) (a .high) (a .range) (a .valid-mask .now) (a .db .now) in
-    (omega arith, omega arith, (λ k. omega (arith, s .pre .1 .1 k)),
-     tile-start-of (a .rows) (a .cols) px (a .ty) (a .tx) (a .hist .now) _ _ _ _ (d .before .before .before .tile-start .ensures) (d .before .before .tile-size .ensures)
-       (d .before .tile-start2 .ensures) (d .tile-size2 .ensures))
+    let px = band (a .low) (a .high) (a .range) (a .valid-mask .now) (a .db .now) in (
+      omega arith,
+      omega arith,
+      (λ k. omega (arith, s .pre .1 .1 k)),
+      tile-start-of (a .rows) (a .cols) px (a .ty) (a .tx) (a .hist .now) _ _ _ _ (d .before .before .before .tile-start .ensures) (d .before .before .tile-size .ensures)
+          (d .before .tile-start2 .ensures) (d .tile-size2 .ensures),
+    )
 
 add-at : tie.Need-add-at Inv-loop μ-loop
 add-at c = omega (arith, inside c)
@@ -109,9 +113,10 @@ count-row-requires c κs =
     let i = c .before .before .before in
     let d = i .before .before .before in
     let s = d .before .before .before .before .before .before .before in
-    let h = inside i in
-    ((simp (length-take, length-drop) (omega (arith, s .pre .0 .0 .marks-length, s .pre .0 .0 .db-length)), simp (length-take, length-drop) (omega arith)),
-     (omega arith, λ k. omega (arith, i .before .loop .inv .2 k)))
+    let h = inside i in (
+      (simp (length-take, length-drop) (omega (arith, s .pre .0 .0 .marks-length, s .pre .0 .0 .db-length)), simp (length-take, length-drop) (omega arith)),
+      (omega arith, λ k. omega (arith, i .before .loop .inv .2 k)),
+    )
 
 add-r : tie.Need-add-r Inv-loop μ-loop
 add-r c = search needs
@@ -137,11 +142,13 @@ loop-again c =
     let r = l .loop .r in
     let at = (top + r) * a .cols + left in
     let f = rowOf (a .cols) px left width in
-    let new = m .count-row .ensures ∙ ap (λ (ps : List Pixel). stored (l .loop .hist) (levels ps)) (band-between (a .low) (a .high) (a .range) ms ds at (at + width) width (omega arith)) in
-    (omega arith, omega (arith, m .count-row .kept .1 .1 .1 .1 .1 .0),
-     (λ k. subst (λ (h : List ℕ). getD h k 0 ≤ (r + 1) * 4096) (sym new)
-       (omega (arith, row-most (l .loop .hist) (r * 4096) width (drop at px) (inside i .2) (l .loop .inv .2) k))),
-     l .loop .inv .3 ∙ rest-next f top height (l .loop .hist) r (omega arith) ∙ ap (λ (h : List ℕ). Rest f top height h (r + 1)) (sym new))
+    let new = m .count-row .ensures ∙ ap (λ (ps : List Pixel). stored (l .loop .hist) (levels ps)) (band-between (a .low) (a .high) (a .range) ms ds at (at + width) width (omega arith)) in (
+      omega arith,
+      omega (arith, m .count-row .kept .1 .1 .1 .1 .1 .0),
+      (λ k. subst (λ (h : List ℕ). getD h k 0 ≤ (r + 1) * 4096) (sym new)
+          (omega (arith, row-most (l .loop .hist) (r * 4096) width (drop at px) (inside i .2) (l .loop .inv .2) k))),
+      l .loop .inv .3 ∙ rest-next f top height (l .loop .hist) r (omega arith) ∙ ap (λ (h : List ℕ). Rest f top height h (r + 1)) (sym new),
+    )
 
 same-length : tie.Need-same-length Inv-loop μ-loop
 same-length c = search needs

@@ -73,15 +73,19 @@ loop-again c =
     let right : ℕ → ℕ → Type 0 = λ k n. n ≡ shadeAt full8 work (a .y) x (a .low) (a .high) (a .range) ms ds k in
     ⊎-elim
     (λ w.
-      rw (w .1)
-      (omega arith, simp length-set (omega arith),
-       kept-or-stored right 0 (l .loop .out) i 0 (omega arith) (l .loop .inv .2) (shade-off full8 work (a .y) (x i) (a .low) (a .high) (a .range) (getD ms i 0) (getD ds i nan) (w .0 .taken))))
+    rw (w .1) (
+      omega arith,
+      simp length-set (omega arith),
+      kept-or-stored right 0 (l .loop .out) i 0 (omega arith) (l .loop .inv .2) (shade-off full8 work (a .y) (x i) (a .low) (a .high) (a .range) (getD ms i 0) (getD ds i nan) (w .0 .taken)),
+    ))
     (λ w.
-      rw (w .5)
-      (omega arith, simp length-set (omega arith),
-       kept-or-stored right 0 (l .loop .out) i (w .4 .result) (omega arith) (l .loop .inv .2)
-       (w .4 .ensures ∙ ap (λ (p : TilePosition). shade full8 work (a .y) p (on (w .3 .result))) (w .1 .ensures)
-       ∙ shade-on full8 work (a .y) (x i) (a .low) (a .high) (a .range) (getD ms i 0) (getD ds i nan) (w .3 .result) (w .0 .left) (w .3 .ensures))))
+    rw (w .5) (
+      omega arith,
+      simp length-set (omega arith),
+      kept-or-stored right 0 (l .loop .out) i (w .4 .result) (omega arith) (l .loop .inv .2)
+          (w .4 .ensures ∙ ap (λ (p : TilePosition). shade full8 work (a .y) p (on (w .3 .result))) (w .1 .ensures)
+          ∙ shade-on full8 work (a .y) (x i) (a .low) (a .high) (a .range) (getD ms i 0) (getD ds i nan) (w .3 .result) (w .0 .left) (w .3 .ensures)),
+    ))
     (c .if1 .came)
 
 same-length : tie.Need-same-length Inv-loop μ-loop

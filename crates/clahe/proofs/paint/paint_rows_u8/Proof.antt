@@ -29,9 +29,10 @@ inside : (c : tie.After-tile-position Inv-loop μ-loop) → let l = c .before .b
 inside c =
     let l = c .before .before in
     let s = l .before .before .before .before .before .before .before .before .before .before in
-    let a = s .args in
-    (omega (arith, next-times (l .loop .r) (a .cols), mul-le-mul-right {m = l .loop .r + 1} {n = a .rows} (a .cols) (omega arith)),
-     times-most (a .rows) (a .cols) 4096 4096 (s .pre .0 .0 .tall) (s .pre .0 .0 .wide))
+    let a = s .args in (
+      omega (arith, next-times (l .loop .r) (a .cols), mul-le-mul-right {m = l .loop .r + 1} {n = a .rows} (a .cols) (omega arith)),
+      times-most (a .rows) (a .cols) 4096 4096 (s .pre .0 .0 .tall) (s .pre .0 .0 .wide),
+    )
 
 tile-side-requires : tie.Need-tile-side-requires Inv-loop μ-loop
 tile-side-requires c κs = search needs
@@ -84,13 +85,20 @@ paint-row-u8-requires c κs =
     let l = p .before .before in
     let s = l .before .before .before .before .before .before .before .before .before .before in
     let a = s .args in
-    let g = inside p in
-    ((simp (length-take, length-drop) (omega (arith, s .pre .0 .0 .wide)),
-      simp (length-take, length-drop) (omega (arith, s .pre .0 .0 .marks-length, s .pre .0 .0 .db-length)),
-      simp (length-take, length-drop) (omega (arith, l .loop .inv .1, s .pre .0 .0 .db-length))),
-     ((s .pre .0 .1, among-of (l .before .tile-side .result) (l .loop .r) (p .tile-position .result) (p .tile-position .ensures)),
-      (s .pre .1 .sized,
-       λ k h. subst Among (sym (s .pre .1 .at k (omega (arith, h, length-take (l .loop .r * a .cols + a .cols - l .loop .r * a .cols) (drop (l .loop .r * a .cols) (a .db .now)))))) (among _ k))))
+    let g = inside p in (
+      (
+        simp (length-take, length-drop) (omega (arith, s .pre .0 .0 .wide)),
+        simp (length-take, length-drop) (omega (arith, s .pre .0 .0 .marks-length, s .pre .0 .0 .db-length)),
+        simp (length-take, length-drop) (omega (arith, l .loop .inv .1, s .pre .0 .0 .db-length)),
+      ),
+      (
+        (s .pre .0 .1, among-of (l .before .tile-side .result) (l .loop .r) (p .tile-position .result) (p .tile-position .ensures)),
+        (
+          s .pre .1 .sized,
+          λ k h. subst Among (sym (s .pre .1 .at k (omega (arith, h, length-take (l .loop .r * a .cols + a .cols - l .loop .r * a .cols) (drop (l .loop .r * a .cols) (a .db .now)))))) (among _ k),
+        ),
+      ),
+    )
 
 add-r : tie.Need-add-r Inv-loop μ-loop
 add-r c = search needs
@@ -112,10 +120,12 @@ loop-again c =
     let y = p .tile-position .result in
     let x = columnAt (a .positions .now) (a .firsts .now) (a .seconds .now) (a .weights .now) in
     let cancel : at + a .cols - at ≡ a .cols = omega arith in
-    let new = m .paint-row-u8 .ensures ∙ ap (λ (n : ℕ). rowShades full8 (a .work .now) y x (a .low) (a .high) (a .range) (take n (drop at ms)) (take n (drop at ds))) cancel in
-    (omega arith, omega (arith, c .before .out .given, l .loop .inv .1),
-     row-put full8 (a .work .now) (a .rows) (a .cols) (a .low) (a .high) (a .range) ms ds (s .pre .0 .0) r y x (omega arith)
-     (p .tile-position .ensures ∙ ap (λ (n : ℕ). positionOf n r) (l .before .tile-side .ensures)) (s .pre .1 .at) (l .loop .out) _ _ (l .loop .inv .1) new (l .loop .inv .2))
+    let new = m .paint-row-u8 .ensures ∙ ap (λ (n : ℕ). rowShades full8 (a .work .now) y x (a .low) (a .high) (a .range) (take n (drop at ms)) (take n (drop at ds))) cancel in (
+      omega arith,
+      omega (arith, c .before .out .given, l .loop .inv .1),
+      row-put full8 (a .work .now) (a .rows) (a .cols) (a .low) (a .high) (a .range) ms ds (s .pre .0 .0) r y x (omega arith)
+          (p .tile-position .ensures ∙ ap (λ (n : ℕ). positionOf n r) (l .before .tile-side .ensures)) (s .pre .1 .at) (l .loop .out) _ _ (l .loop .inv .1) new (l .loop .inv .2),
+    )
 
 same-length : tie.Need-same-length Inv-loop μ-loop
 same-length c = search needs

@@ -35,7 +35,7 @@ mul-threshold c =
     let s = c .before .before .before .before .before .before .before .before in
     let a = s .args in
     let e : c .before .tile-size .result * c .tile-size2 .result ≡ tileSize (a .rows) (a .k / 8) * tileSize (a .cols) (a .k % 8) =
-        ap (λ (n : ℕ). n * c .tile-size2 .result) (c .before .tile-size .ensures) ∙ ap (λ (n : ℕ). tileSize (a .rows) (a .k / 8) * n) (c .tile-size2 .ensures) in
+    ap (λ (n : ℕ). n * c .tile-size2 .result) (c .before .tile-size .ensures) ∙ ap (λ (n : ℕ). tileSize (a .rows) (a .k / 8) * n) (c .tile-size2 .ensures) in
     omega (arith, e, area-most (a .rows) (a .cols) (a .k / 8) (a .k % 8) (s .pre .0 .tall) (s .pre .0 .wide))
 
 threshold-requires : tie.Need-threshold-requires
@@ -43,7 +43,7 @@ threshold-requires c κs =
     let s = c .before .before .before .before .before .before .before .before in
     let a = s .args in
     let e : c .before .tile-size .result * c .tile-size2 .result ≡ tileSize (a .rows) (a .k / 8) * tileSize (a .cols) (a .k % 8) =
-        ap (λ (n : ℕ). n * c .tile-size2 .result) (c .before .tile-size .ensures) ∙ ap (λ (n : ℕ). tileSize (a .rows) (a .k / 8) * n) (c .tile-size2 .ensures) in
+    ap (λ (n : ℕ). n * c .tile-size2 .result) (c .before .tile-size .ensures) ∙ ap (λ (n : ℕ). tileSize (a .rows) (a .k / 8) * n) (c .tile-size2 .ensures) in
     omega (arith, e, area-most (a .rows) (a .cols) (a .k / 8) (a .k % 8) (s .pre .0 .tall) (s .pre .0 .wide))
 
 slice-aggregate-clip : tie.Need-slice-aggregate-clip
@@ -55,10 +55,11 @@ clip-requires c κs =
     let n = t .before .before .before .before in
     let s = n .before .before .before .before .before in
     let a = s .args in
-    let px = band (a .low) (a .high) (a .range) (a .valid-mask .now) (a .db .now) in
-    (n .count-tile .kept .1 .1 .1 .1 .1 .1 .1 .1 .1 .0,
-     subst (λ (h : List ℕ). sumOf h < 2 ^ 31) (sym (n .count-tile .ensures)) (omega (arith, tile-sum-most (a .rows) (a .cols) px (a .k / 8) (a .k % 8) (s .pre .0 .tall) (s .pre .0 .wide))),
-     subst (λ (x : Float). T (le zero64 x)) (sym (t .threshold .ensures)) (threshold-low _))
+    let px = band (a .low) (a .high) (a .range) (a .valid-mask .now) (a .db .now) in (
+      n .count-tile .kept .1 .1 .1 .1 .1 .1 .1 .1 .1 .0,
+      subst (λ (h : List ℕ). sumOf h < 2 ^ 31) (sym (n .count-tile .ensures)) (omega (arith, tile-sum-most (a .rows) (a .cols) px (a .k / 8) (a .k % 8) (s .pre .0 .tall) (s .pre .0 .wide))),
+      subst (λ (x : Float). T (le zero64 x)) (sym (t .threshold .ensures)) (threshold-low _),
+    )
 
 slice-aggregate-write-sums : tie.Need-slice-aggregate-write-sums
 slice-aggregate-write-sums c = search needs
@@ -79,10 +80,10 @@ returns c =
     let a = s .args in
     let px = band (a .low) (a .high) (a .range) (a .valid-mask .now) (a .db .now) in
     let e : t .before .before .tile-size .result * t .before .tile-size2 .result ≡ tileSize (a .rows) (a .k / 8) * tileSize (a .cols) (a .k % 8) =
-        ap (λ (m : ℕ). m * t .before .tile-size2 .result) (t .before .before .tile-size .ensures) ∙ ap (λ (m : ℕ). tileSize (a .rows) (a .k / 8) * m) (t .before .tile-size2 .ensures) in
+    ap (λ (m : ℕ). m * t .before .tile-size2 .result) (t .before .before .tile-size .ensures) ∙ ap (λ (m : ℕ). tileSize (a .rows) (a .k / 8) * m) (t .before .tile-size2 .ensures) in
     w .write-sums .ensures
     ∙ ap (λ (h : List ℕ). map (sumAt h) (places 256))
-      (table-of (a .rows) (a .cols) px (a .k) (t .threshold .result) _ _ (t .threshold .ensures ∙ ap threshold e) (n .count-tile .ensures) (l .clip .ensures))
+    (table-of (a .rows) (a .cols) px (a .k) (t .threshold .result) _ _ (t .threshold .ensures ∙ ap threshold e) (n .count-tile .ensures) (l .clip .ensures))
 
 pub tile-sums-spec : {M : Type 1} → statement M
 tile-sums-spec =

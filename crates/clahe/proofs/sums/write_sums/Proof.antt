@@ -69,11 +69,15 @@ loop-again c =
     let m = l .before in
     let hs = m .before .before .before .before .before .args .hist .now in
     let b = l .loop .b in
-    let next : sumOf (take (suc b) hs) ≡ l .loop .sum + getD hs b 0 = sum-take hs b (omega arith) ∙ ap (λ (n : ℕ). n + getD hs b 0) (sym (l .loop .inv .3)) in
-    (omega arith, simp length-set (omega arith), omega (arith, c .before .shared-slice-known2 .given b), rw (add-one) (sym next),
-     kept-or-stored (λ k x. x ≡ sumAt hs k) nan (l .loop .sums) b _ (omega arith) (l .loop .inv .4)
-     (sum-at hs b (l .loop .sum + getD hs b 0) _ _ (sym next)
-       (m .max-f64 .ensures ∙ ap (λ (n : ℕ). larger (ofCount n) one64) (m .before .before .total .ensures .0)) (c .part .ensures)))
+    let next : sumOf (take (suc b) hs) ≡ l .loop .sum + getD hs b 0 = sum-take hs b (omega arith) ∙ ap (λ (n : ℕ). n + getD hs b 0) (sym (l .loop .inv .3)) in (
+      omega arith,
+      simp length-set (omega arith),
+      omega (arith, c .before .shared-slice-known2 .given b),
+      rw (add-one) (sym next),
+      kept-or-stored (λ k x. x ≡ sumAt hs k) nan (l .loop .sums) b _ (omega arith) (l .loop .inv .4)
+          (sum-at hs b (l .loop .sum + getD hs b 0) _ _ (sym next)
+          (m .max-f64 .ensures ∙ ap (λ (n : ℕ). larger (ofCount n) one64) (m .before .before .total .ensures .0)) (c .part .ensures)),
+    )
 
 same-length : tie.Need-same-length Inv-loop μ-loop
 same-length c = search needs

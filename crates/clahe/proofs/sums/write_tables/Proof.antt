@@ -56,9 +56,11 @@ loop-again c =
     let m = c .before .before in
     let l = m .before .before .before in
     let a = l .before .before .before .before .args in
-    let px = band (a .low) (a .high) (a .range) (a .valid-mask .now) (a .db .now) in
-    (omega arith, omega (arith, c .before .work .given),
-     put-table (λ j b. sumAt (tileTable (a .rows) (a .cols) px j) b) (l .loop .work) _ _ (l .loop .k) (omega arith) (m .tile-sums .ensures) (l .loop .inv .2))
+    let px = band (a .low) (a .high) (a .range) (a .valid-mask .now) (a .db .now) in (
+      omega arith,
+      omega (arith, c .before .work .given),
+      put-table (λ j b. sumAt (tileTable (a .rows) (a .cols) px j) b) (l .loop .work) _ _ (l .loop .k) (omega arith) (m .tile-sums .ensures) (l .loop .inv .2),
+    )
 
 same-length : tie.Need-same-length Inv-loop μ-loop
 same-length c = search needs
