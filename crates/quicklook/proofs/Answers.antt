@@ -1,5 +1,5 @@
 -- The number and the lent values that an answer leaves, once the answer is known. Assumes nothing.
-use mathlib.Core.Path.{_≡_, refl, sym, ap, _∙_}
+use mathlib.Core.Path.{_≡_, refl, _∙_}
 use mathlib.Core.List.{List}
 use Prim.Native.Nat.{ℕ}
 use Rattle.spec.specs.Answer.{Answer, refused, done, number, after}

@@ -51,7 +51,7 @@ returns-3 c =
     let m = s .before .before .before .before in
     same-list _ _ _ _ _ _ _
     (named-mode _ _ _ (m .before .before .mode-of .ensures) _ (m .mode .given .1)
-     ∙ named-strategy _ _ _ (s .before .before .strategy-of .ensures) _ (s .strategy .given .1))
+    ∙ named-strategy _ _ _ (s .before .before .strategy-of .ensures) _ (s .strategy .given .1))
     (c .number-of .ensures) (r .create-synthetic-rgb-by-mode-and-strategy .ensures .0) (r .create-synthetic-rgb-by-mode-and-strategy .ensures .1)
 
 pub quicklook-compose-spec : {M : Type 1} → statement M

@@ -64,7 +64,7 @@ returns-3 c =
     same-lists _ _ _ _ _ _ _ _ _ _ _ _ _ _ _
     (named-strategy _ _ _ found _ (s .strategy .given .1) ∙ named-mode _ _ _ found-mode _ (m .mode .given .1)) (c .number-of .ensures) r
     (named-work _ _ found _ (s .strategy .given .1) _ _
-     (named-strategy _ _ _ found _ (s .strategy .given .1) ∙ named-mode _ _ _ found-mode _ (m .mode .given .1)) _ _ (r .1 .1 .1 .1))
+    (named-strategy _ _ _ found _ (s .strategy .given .1) ∙ named-mode _ _ _ found-mode _ (m .mode .given .1)) _ _ (r .1 .1 .1 .1))
 
 pub quicklook-picture-spec : {M : Type 1} → statement M
 quicklook-picture-spec =
