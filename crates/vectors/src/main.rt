@@ -1,14 +1,17 @@
 // Replays the stored vectors: each record of a file names a call, what it is lent and what it must answer and leave. Prints for each file
 // how many records it has and how many differ. The record format is in oracle/README.md.
 ghost use mathlib.Core.Path.{_≡_};
-ghost use Prim.Native.Nat.{_≤_};
+ghost use Prim.Native.Nat.{_*_, _≤_, _<_};
 ghost use lib.ListN.{length};
+ghost use Rattle.clahe.specs.Band.{Raster};
 use libc::STDOUT_FILENO;
 use types::AutoscaleStrategy;
 use types::HistogramStats;
 use types::Reply;
 use types::StatisticsAnswer;
 use types::SyntheticRgbMode;
+use types::TilePosition;
+use types::WindowAnswer;
 
 // ---- the numbers of a record; 0 beyond its end
 
@@ -308,6 +311,21 @@ fn is_f32(b: &[u8], list: List, found: &[f32; 4096]) -> bool
     true
 }
 
+// By bits, from a place of the list on.
+fn are_bits(b: &[u8], list: List, from: usize, found: &[f64]) -> bool
+    requires { ⌜ (from ≤ 768) × (length (now found) ≡ 256) ⌝ }
+{
+    let n: usize = 256;
+    let mut i: usize = 0;
+    while i < n {
+        if !same_bits_f64(f64_of(b, list, from + i), found[i]) {
+            return false;
+        }
+        i += 1;
+    }
+    true
+}
+
 // As numbers: -0 is 0.
 fn are_numbers(b: &[u8], list: List, found: &[f64]) -> bool
     requires { ⌜ (list .count ≤ 4096) × (length (now found) ≤ 4096) ⌝ }
@@ -433,22 +451,320 @@ fn are_statistics(b: &[u8], count: List, floats: List, s: HistogramStats) -> boo
     is_reply(b, Reply::Done) && u64_of(b, count, 0) == s.valid_count as u64 && are_numbers(b, floats, &found)
 }
 
-fn replay_statistics(b: &[u8]) -> bool {
+fn replay_statistics(b: &[u8], db: &[f64], valid_mask: &[u8], count: List) -> bool {
+    let floats = list_after(b, count);
+    if !is_last(b, floats) {
+        return false;
+    }
+    let answer = histogram::compute_histogram_stats(rows_of(b), cols_of(b), db, valid_mask);
+    match answer {
+        StatisticsAnswer::Statistics(s) => are_statistics(b, count, floats, s),
+        StatisticsAnswer::Refused(k) => is_reply(b, Reply::Refused(k)),
+    }
+}
+
+fn is_window(b: &[u8], kind: List, floats: List, low: f64, high: f64, range: f64, gamma: f64) -> bool
+    requires { ⌜ floats .count ≤ 4096 ⌝ }
+{
+    let found = [low, high, range, gamma];
+    is_reply(b, Reply::Done) && u8_of(b, kind, 0) == 1 && are_numbers(b, floats, &found)
+}
+
+fn replay_window(b: &[u8], db: &[f64], valid_mask: &[u8], kind: List) -> bool {
+    let floats = list_after(b, kind);
+    if !is_last(b, floats) {
+        return false;
+    }
+    let answer = autoscale::autoscale_window(strategy_of(b), rows_of(b), cols_of(b), db, valid_mask);
+    match answer {
+        WindowAnswer::Window { low, high, range, gamma } => is_window(b, kind, floats, low, high, range, gamma),
+        WindowAnswer::Blank => is_reply(b, Reply::Done) && u8_of(b, kind, 0) == 0,
+        WindowAnswer::Refused(k) => is_reply(b, Reply::Refused(k)),
+    }
+}
+
+// The length of work to lend, which the record gives as one number.
+fn work_length(b: &[u8], list: List) -> usize
+    ensures { λ r. ⌜ r ≤ 16385 ⌝ }
+{
+    let n = u32_of(b, list, 0);
+    if n < 16385 { n as usize } else { 16385 }
+}
+
+// Work is as it was, unless the call is done under Clahe.
+fn is_work(b: &[u8], work: &[f64; 16385], untouched: f64) -> bool {
+    if byte_at(b, 1) == 4 {
+        if byte_at(b, 3) == 0 {
+            return true;
+        }
+    }
+    let n: usize = 16385;
+    let mut i: usize = 0;
+    while i < n {
+        if !same_bits_f64(untouched, work[i]) {
+            return false;
+        }
+        i += 1;
+    }
+    true
+}
+
+fn replay_grey_u8(b: &[u8], db: &[f64], valid_mask: &[u8], lent: List) -> bool {
+    let expected = list_after(b, lent);
+    let mut out = [165u8; 4096];
+    let untouched = numeric::f64_from_bits(0xa5a5a5a5a5a5a5a5);
+    let mut work = [untouched; 16385];
+    let k = expected.count;
+    let w = work_length(b, lent);
+    let reply = pipeline::autoscale_db_image_to_u8(rows_of(b), cols_of(b), strategy_of(b), db, valid_mask, &mut out[..k], &mut work[..w]);
+    is_reply(b, reply) && is_last(b, expected) && is_u8(b, expected, &out) && is_work(b, &work, untouched)
+}
+
+fn replay_grey_u16(b: &[u8], db: &[f64], valid_mask: &[u8], lent: List) -> bool {
+    let expected = list_after(b, lent);
+    let mut out = [0xa5a5u16; 4096];
+    let untouched = numeric::f64_from_bits(0xa5a5a5a5a5a5a5a5);
+    let mut work = [untouched; 16385];
+    let k = expected.count;
+    let w = work_length(b, lent);
+    let reply = pipeline::autoscale_db_image_to_u16(rows_of(b), cols_of(b), strategy_of(b), db, valid_mask, &mut out[..k], &mut work[..w]);
+    is_reply(b, reply) && is_last(b, expected) && is_u16(b, expected, &out) && is_work(b, &work, untouched)
+}
+
+// Whether the three lists after one are these bytes.
+fn are_bytes(b: &[u8], lent: List, grey1: &[u8; 4096], grey2: &[u8; 4096], rgb: &[u8; 4096]) -> bool {
+    let first = list_after(b, lent);
+    let second = list_after(b, first);
+    let colours = list_after(b, second);
+    is_last(b, colours) && is_u8(b, first, grey1) && is_u8(b, second, grey2) && is_u8(b, colours, rgb)
+}
+
+fn is_picture(b: &[u8], db1: &[f64], valid_mask1: &[u8], db2: &[f64], valid_mask2: &[u8], lent: List) -> bool {
+    let first = list_after(b, lent);
+    let second = list_after(b, first);
+    let colours = list_after(b, second);
+    let mut grey1 = [165u8; 4096];
+    let mut grey2 = [165u8; 4096];
+    let mut rgb = [165u8; 4096];
+    let untouched = numeric::f64_from_bits(0xa5a5a5a5a5a5a5a5);
+    let mut work = [untouched; 16385];
+    let m = first.count;
+    let n = second.count;
+    let k = colours.count;
+    let w = work_length(b, lent);
+    let reply = pipeline::synthetic_rgb_picture(
+        rows_of(b),
+        cols_of(b),
+        strategy_of(b),
+        mode_of(b),
+        db1,
+        valid_mask1,
+        db2,
+        valid_mask2,
+        &mut grey1[..m],
+        &mut grey2[..n],
+        &mut rgb[..k],
+        &mut work[..w],
+    );
+    is_reply(b, reply) && are_bytes(b, lent, &grey1, &grey2, &rgb) && is_work(b, &work, untouched)
+}
+
+// The second band of a picture.
+fn with_second(b: &[u8], db1: &[f64], valid_mask1: &[u8], values: List) -> bool
+    requires { ⌜ values .count ≤ 4096 ⌝ }
+{
+    let mask = list_after(b, values);
+    let mut db2 = [0.0; 4096];
+    read_f64(b, values, &mut db2);
+    let mut valid_mask2 = [0u8; 4096];
+    read_u8(b, mask, &mut valid_mask2);
+    let n = values.count;
+    let m = mask.count;
+    is_picture(b, db1, valid_mask1, &db2[..n], &valid_mask2[..m], list_after(b, mask))
+}
+
+// ---- Clahe's parts. A normalised band is one whose window is from 0 to 1.
+
+fn area_of(rows: usize, cols: usize) -> usize
+    requires { ⌜ (rows ≤ 4096) × (cols ≤ 4096) ⌝ }
+    ensures { λ r. ⌜ (r ≡ rows * cols) × (r ≤ 16777216) ⌝ }
+{
+    rows * cols
+}
+
+fn read_counts(b: &[u8], list: List, to: &mut [u32])
+    requires { ⌜ length (now to) ≡ 256 ⌝ }
+{
+    let n: usize = 256;
+    let mut i: usize = 0;
+    while i < n {
+        to[i] = u32_of(b, list, i);
+        i += 1;
+    }
+}
+
+// The sums of a tile of that many pixels from its counts; whether they could be had.
+fn sums_of_counts(area: usize, hist: &mut [u32], sums: &mut [f64]) -> bool
+    requires { ⌜ (area ≤ 16777216) × (length (now hist) ≡ 256) × (length (now sums) ≡ 256) ⌝ }
+{
+    if clahe::sums::total(hist) >= 2147483648 {
+        return false;
+    }
+    let limit = clahe::clip::threshold(area);
+    if limit >= 0.0 {
+        clahe::clip::clip(hist, limit);
+        clahe::sums::write_sums(hist, sums);
+        return true;
+    }
+    false
+}
+
+fn replay_tile(b: &[u8]) -> bool {
+    let counts = first_list(b);
+    let expected = list_after(b, counts);
+    let rows = rows_of(b);
+    let cols = cols_of(b);
+    if rows > 4096 {
+        return false;
+    }
+    if cols > 4096 {
+        return false;
+    }
+    let mut hist = [0u32; 256];
+    read_counts(b, counts, &mut hist);
+    let mut sums = [0.0; 256];
+    if !sums_of_counts(area_of(rows, cols), &mut hist, &mut sums) {
+        return false;
+    }
+    is_last(b, expected) && expected.count == 256 && are_bits(b, expected, 0, &sums)
+}
+
+// Whether a tile of a normalised band has the sums that stand in a list from a place on.
+fn is_tile(b: &[u8], rows: usize, cols: usize, db: &[f64], valid_mask: &[u8], k: usize, expected: List, from: usize) -> bool
+    requires { ⌜ Raster rows cols (now «valid_mask») (now db) × (from ≤ 768) ⌝ }
+{
+    if k >= 64 {
+        return false;
+    }
+    let mut sums = [0.0; 256];
+    clahe::sums::tile_sums(db, valid_mask, rows, cols, 0.0, 1.0, 1.0, k, &mut sums);
+    are_bits(b, expected, from, &sums)
+}
+
+fn are_tiles(b: &[u8], rows: usize, cols: usize, db: &[f64], valid_mask: &[u8], tiles: List, expected: List) -> bool
+    requires { ⌜ Raster rows cols (now «valid_mask») (now db) ⌝ }
+{
+    let first = is_tile(b, rows, cols, db, valid_mask, u32_of(b, tiles, 0) as usize, expected, 0);
+    let second = is_tile(b, rows, cols, db, valid_mask, u32_of(b, tiles, 1) as usize, expected, 256);
+    let third = is_tile(b, rows, cols, db, valid_mask, u32_of(b, tiles, 2) as usize, expected, 512);
+    first && second && third && tiles.count == 3 && expected.count == 768
+}
+
+// A normalised value at two positions; NaN if one of them is not among the tiles.
+fn equalised_at(work: &[f64], y: TilePosition, x: TilePosition, u: f64) -> f64
+    requires { ⌜ length (now work) ≡ 16384 ⌝ }
+{
+    if y.first < 8 && y.second < 8 && x.first < 8 && x.second < 8 {
+        return clahe::sampling::sample(work, y, x, clahe::counts::level_of(u));
+    }
+    0.0 / 0.0
+}
+
+// The equalised value of the pixel in row r and column c; NaN for a pixel too far out.
+fn equalised(work: &[f64], rows: usize, cols: usize, r: usize, c: usize, u: f64) -> f64
+    requires { ⌜ (length (now work) ≡ 16384) × (rows ≤ 4096) × (cols ≤ 4096) ⌝ }
+{
+    if r > 4096 || c > 4096 {
+        return 0.0 / 0.0;
+    }
+    let y = clahe::sampling::tile_position(clahe::tiles::tile_side(rows), r);
+    let x = clahe::sampling::tile_position(clahe::tiles::tile_side(cols), c);
+    equalised_at(work, y, x, u)
+}
+
+// Invalid pixels are 0.
+fn are_equalised(b: &[u8], work: &[f64], rows: usize, cols: usize, db: &[f64], valid_mask: &[u8], expected: List) -> bool
+    requires { ⌜ (length (now work) ≡ 16384) × (rows ≤ 4096) × (cols ≤ 4096) × (0 < cols) ⌝ }
+    requires { ⌜ (length (now db) ≤ 4096) × (length (now «valid_mask») ≡ length (now db)) ⌝ }
+{
+    let n = db.len();
+    let mut i: usize = 0;
+    while i < n {
+        let found = if valid_mask[i] == 0 { 0.0 } else { equalised(work, rows, cols, i / cols, i % cols, db[i]) };
+        if !same_bits_f64(f64_of(b, expected, i), found) {
+            return false;
+        }
+        i += 1;
+    }
+    true
+}
+
+fn is_equalised(b: &[u8], rows: usize, cols: usize, db: &[f64], valid_mask: &[u8], expected: List) -> bool
+    requires { ⌜ Raster rows cols (now «valid_mask») (now db) × (length (now db) ≤ 4096) ⌝ }
+{
+    if cols == 0 {
+        return false;
+    }
+    if expected.count != db.len() {
+        return false;
+    }
+    let mut work = [0.0; 16384];
+    clahe::sums::write_tables(db, valid_mask, rows, cols, 0.0, 1.0, 1.0, &mut work);
+    are_equalised(b, &work, rows, cols, db, valid_mask, expected)
+}
+
+// The sums of three tiles, or all equalised pixels.
+fn replay_normalised(b: &[u8], db: &[f64], valid_mask: &[u8], third: List) -> bool {
+    let rows = rows_of(b);
+    let cols = cols_of(b);
+    if rows > 4096 {
+        return false;
+    }
+    if cols > 4096 {
+        return false;
+    }
+    let n = area_of(rows, cols);
+    if n > 4096 {
+        return false;
+    }
+    if db.len() != n {
+        return false;
+    }
+    if valid_mask.len() != n {
+        return false;
+    }
+    if op_of(b) == 18 {
+        let expected = list_after(b, third);
+        return is_last(b, expected) && are_tiles(b, rows, cols, db, valid_mask, third, expected);
+    }
+    is_last(b, third) && is_equalised(b, rows, cols, db, valid_mask, third)
+}
+
+// ---- the calls that take dB and marks, which are the first two lists
+
+fn with_band(b: &[u8], db: &[f64], valid_mask: &[u8], third: List) -> bool
+    requires { ⌜ third .count ≤ 4096 ⌝ }
+{
+    match op_of(b) {
+        1 => replay_statistics(b, db, valid_mask, third),
+        2 => replay_window(b, db, valid_mask, third),
+        3 => replay_grey_u8(b, db, valid_mask, third),
+        4 => replay_grey_u16(b, db, valid_mask, third),
+        5 => with_second(b, db, valid_mask, third),
+        _ => replay_normalised(b, db, valid_mask, third),
+    }
+}
+
+fn replay_band(b: &[u8]) -> bool {
     let values = first_list(b);
     let mask = list_after(b, values);
-    let count = list_after(b, mask);
-    let floats = list_after(b, count);
     let mut db = [0.0; 4096];
     read_f64(b, values, &mut db);
     let mut valid_mask = [0u8; 4096];
     read_u8(b, mask, &mut valid_mask);
     let n = values.count;
     let m = mask.count;
-    let answer = histogram::compute_histogram_stats(rows_of(b), cols_of(b), &db[..n], &valid_mask[..m]);
-    match answer {
-        StatisticsAnswer::Statistics(s) => is_last(b, floats) && are_statistics(b, count, floats, s),
-        StatisticsAnswer::Refused(k) => is_last(b, floats) && is_reply(b, Reply::Refused(k)),
-    }
+    with_band(b, &db[..n], &valid_mask[..m], list_after(b, mask))
 }
 
 // ---- the steps on floats, element by element
@@ -586,13 +902,14 @@ fn replay_steps(b: &[u8]) -> bool {
 // Whether the call of a record answers and leaves what the record says.
 fn agrees(b: &[u8]) -> bool {
     match op_of(b) {
-        1 => replay_statistics(b),
+        1 | 2 | 3 | 4 | 5 | 18 | 19 => replay_band(b),
         6 => replay_stretch(b),
         7 => replay_composition(b),
         8 | 9 | 10 | 11 | 12 => replay_ops(b),
         13 => replay_marks(b),
         14 => replay_padding_u8(b),
         15 => replay_padding_u16(b),
+        17 => replay_tile(b),
         _ => replay_steps(b),
     }
 }
@@ -705,6 +1022,11 @@ fn main() {
     let d = replay_part(b"numeric", b"numeric.bin", c);
     let e = replay_part(b"stretch", b"stretch.bin", d);
     let f = replay_part(b"composition", b"compose.bin", e);
-    let all = replay_part(b"statistics", b"statistics.bin", f);
+    let g = replay_part(b"statistics", b"statistics.bin", f);
+    let h = replay_part(b"window", b"window.bin", g);
+    let i = replay_part(b"grey8", b"grey8.bin", h);
+    let j = replay_part(b"grey16", b"grey16.bin", i);
+    let k = replay_part(b"picture", b"picture.bin", j);
+    let all = replay_part(b"clahe", b"clahe.bin", k);
     print_tally(b"all", all);
 }
