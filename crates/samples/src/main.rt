@@ -279,7 +279,8 @@ fn four() {
     text(b"Four pixels of 200 in both bands, colours above f = 3: ");
     let band = [200u8; 4];
     let mut out = [165u8; 12];
-    let reply = synthetic_rgb::create_synthetic_rgb_by_mode_and_strategy(SyntheticRgbMode::Default, AutoscaleStrategy::Tamed, &band, &band, &mut out);
+    let mode = SyntheticRgbMode::Default;
+    let reply = synthetic_rgb::create_synthetic_rgb_by_mode_and_strategy(mode, AutoscaleStrategy::Tamed, &band, &band, &mut out);
     reply_bytes(reply, &out);
 }
 
@@ -288,7 +289,8 @@ fn five() {
     text(b"Five pixels of 200 in both bands, colours above f = 40: ");
     let band = [200u8; 5];
     let mut out = [165u8; 15];
-    let reply = synthetic_rgb::create_synthetic_rgb_by_mode_and_strategy(SyntheticRgbMode::Default, AutoscaleStrategy::Tamed, &band, &band, &mut out);
+    let mode = SyntheticRgbMode::Default;
+    let reply = synthetic_rgb::create_synthetic_rgb_by_mode_and_strategy(mode, AutoscaleStrategy::Tamed, &band, &band, &mut out);
     reply_bytes(reply, &out);
 }
 
@@ -320,24 +322,34 @@ fn refusal(line: &[u8], cols: usize, mark: u8, v: f64) {
     answered(autoscale::autoscale_window(AutoscaleStrategy::Default, 1, cols, &db, &valid_mask));
 }
 
-fn main() {
+// ---- the samples
+
+fn statistics() {
     ten();
+    one();
+}
+
+fn greys() {
     grey_u8(b"dB 0, 10, Default, U8 grey: ", AutoscaleStrategy::Default, 10.0);
     grey_u16(b"0, 0.5, Default, U16 grey: ", AutoscaleStrategy::Default, 0.5);
     grey_u8(b"0, 0.5, Default, U8 grey: ", AutoscaleStrategy::Default, 0.5);
-    one();
     one_grey();
     standard_grey(b"Standard, 0, 14: ", 14.0);
     standard_grey(b"Standard, 0, 15: ", 15.0);
     standard_grey(b"Standard, 0, 40: ", 40.0);
     standard_grey(b"Standard, 0, 41: ", 41.0);
+    clahe_grey();
+}
+
+fn windows() {
     standard(b"Window of Standard, 0, 14: ", 14.0);
     standard(b"Window of Standard, 0, 15: ", 15.0);
     standard(b"Window of Standard, 0, 40: ", 40.0);
     standard(b"Window of Standard, 0, 41: ", 41.0);
     blank();
-    stretched(b"Stretch 0, 1, 2: ", 0, 1, 2);
-    stretched(b"Stretch 7, 7, 7: ", 7, 7, 7);
+}
+
+fn colours() {
     colour(b"Default (255,255): ", AutoscaleStrategy::Default, 255, 255);
     colour(b"Default (255,1): ", AutoscaleStrategy::Default, 255, 1);
     colour(b"Default (1,1): ", AutoscaleStrategy::Default, 1, 1);
@@ -348,14 +360,30 @@ fn main() {
     colour(b"Suppressed, one pixel (4,4): ", AutoscaleStrategy::Clahe, 4, 4);
     four();
     five();
+}
+
+fn beside() {
+    stretched(b"Stretch 0, 1, 2: ", 0, 1, 2);
+    stretched(b"Stretch 7, 7, 7: ", 7, 7, 7);
     pad();
     mark(b"Mark of 3727C5AC: ", 0x3727c5ac);
     mark(b"Mark of 3727C5AD: ", 0x3727c5ad);
+}
+
+fn replies() {
     refusal(b"Columns 4,097 and a mark 2: ", 4097, 2, 0.0);
     refusal(b"Two pixels for three: ", 3, 2, 0.0);
     refusal(b"A mark 2 beside 1001 dB: ", 2, 2, 1001.0);
     refusal(b"1001 dB: ", 2, 1, 1001.0);
-    clahe_grey();
     refusal(b"1000 dB: ", 2, 1, 1000.0);
     refusal(b"1001 dB under a mark 0: ", 2, 0, 1001.0);
+}
+
+fn main() {
+    statistics();
+    greys();
+    windows();
+    colours();
+    beside();
+    replies();
 }

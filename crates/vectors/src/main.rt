@@ -1014,19 +1014,26 @@ fn replay_part(name: &[u8], path: &[u8], all: Tally) -> Tally {
     }
 }
 
+fn replay_beside(all: Tally) -> Tally {
+    let all = replay_part(b"marks", b"marks.bin", all);
+    let all = replay_part(b"ops", b"ops.bin", all);
+    let all = replay_part(b"padding", b"padding.bin", all);
+    let all = replay_part(b"numeric", b"numeric.bin", all);
+    let all = replay_part(b"stretch", b"stretch.bin", all);
+    replay_part(b"composition", b"compose.bin", all)
+}
+
+fn replay_bands(all: Tally) -> Tally {
+    let all = replay_part(b"statistics", b"statistics.bin", all);
+    let all = replay_part(b"window", b"window.bin", all);
+    let all = replay_part(b"grey8", b"grey8.bin", all);
+    let all = replay_part(b"grey16", b"grey16.bin", all);
+    let all = replay_part(b"picture", b"picture.bin", all);
+    replay_part(b"clahe", b"clahe.bin", all)
+}
+
 fn main() {
-    let none = Tally { records: 0, differ: 0 };
-    let a = replay_part(b"marks", b"marks.bin", none);
-    let b = replay_part(b"ops", b"ops.bin", a);
-    let c = replay_part(b"padding", b"padding.bin", b);
-    let d = replay_part(b"numeric", b"numeric.bin", c);
-    let e = replay_part(b"stretch", b"stretch.bin", d);
-    let f = replay_part(b"composition", b"compose.bin", e);
-    let g = replay_part(b"statistics", b"statistics.bin", f);
-    let h = replay_part(b"window", b"window.bin", g);
-    let i = replay_part(b"grey8", b"grey8.bin", h);
-    let j = replay_part(b"grey16", b"grey16.bin", i);
-    let k = replay_part(b"picture", b"picture.bin", j);
-    let all = replay_part(b"clahe", b"clahe.bin", k);
+    let beside = replay_beside(Tally { records: 0, differ: 0 });
+    let all = replay_bands(beside);
     print_tally(b"all", all);
 }
