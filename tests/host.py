@@ -1,6 +1,7 @@
 """The program `quicklook` as people use it: files in and out, refusals, damaged files. Usage: host.py PATH-OF-QUICKLOOK"""
 import os
 import pathlib
+import resource
 import struct
 import subprocess
 import sys
@@ -8,6 +9,7 @@ import tempfile
 import unittest
 
 import numpy
+from osgeo import gdal
 from PIL import Image
 
 PROGRAM = os.path.abspath(sys.argv.pop(1))
@@ -212,12 +214,12 @@ class Damaged(Case):
     def test_kinds(self):
         db, marks, _, _ = self.scene()
         array = numpy.load(db)
-        for name, other in {"f4": array.astype("f4"), "big": array.astype(">f8"), "fortran": numpy.asfortranarray(array),
-                            "flat": array.ravel(), "cube": array[None], "text": array.astype(str)}.items():
+        for name, other in {"flat": array.ravel(), "cube": array[None], "text": array.astype(str)}.items():
             self.fails(74, name, "stats", self.save(name + ".npy", other), marks)
-        self.fails(74, "m8.npy", "stats", db, self.save("m8.npy", array))
-        self.fails(74, "short.npy", "stats", db, self.save("short.npy", numpy.ones((16, 23), numpy.uint8)))
+        self.fails(3, "m8.npy", "stats", db, self.save("m8.npy", array))
+        self.fails(2, "short.npy has 16 rows of 23, but " + db + " has 16 rows of 24", "stats", db, self.save("short.npy", numpy.ones((16, 23), numpy.uint8)))
         self.fails(74, "nowhere.npy", "stats", self.at("nowhere.npy"), marks)
+        self.fails(74, "nowhere.tif", "stats", self.at("nowhere.tif"), marks)
         self.fails(74, self.folder.name, "stats", self.folder.name, marks)
 
     def test_pictures(self):
@@ -240,7 +242,40 @@ class Damaged(Case):
                 self.assertIn(result.returncode, (0, 1, 2, 3, 4, 74), result.stderr)
                 self.assertNotIn("panicked", result.stderr)
         Image.new("RGB", (4, 4)).save(self.at("colour.png"))
-        self.fails(74, "colour.png", "stretch", self.at("colour.png"), "--out", self.at("o.npy"))
+        self.fails(64, "colour.png:3", "stretch", self.at("colour.png"), "--out", self.at("o.npy"))
+
+    def test_gdal_process(self):
+        """A GDAL process that is missing, says nothing, says nonsense for ever, or hands the request back is the file's trouble."""
+        db, marks, _, _ = self.scene()
+        Image.fromarray(numpy.load(db).astype(numpy.float32)).save(self.at("db.tif"))
+        for program in (self.at("nowhere"), "/usr/bin/true", "/usr/bin/yes", "/usr/bin/cat"):
+            for words in (("stats", self.at("db.tif"), marks), ("grey", db, marks, "--out", self.at("grey.tif"))):
+                result = subprocess.run([PROGRAM, *words], capture_output=True, text=True, timeout=60, env={**os.environ, "QUICKLOOK_GDAL": program})
+                self.assertEqual(result.returncode, 74, (program, result.stderr))
+                self.assertNotIn("panicked", result.stderr)
+        self.assertEqual([name for name in os.listdir(self.folder.name) if "grey" in name], [])
+
+    def test_no_room(self):
+        """A file that cannot be written to its end, by the program or by GDAL's process: 74, the earlier file as it was, nothing left beside it."""
+        db, marks, _, _ = self.scene(600, 800)
+        georeferenced = gdal.GetDriverByName("GTiff").Create(self.at("db.tif"), 800, 600, 1, gdal.GDT_Float32)
+        georeferenced.SetGeoTransform((500000.0, 10.0, 0.0, 5200000.0, 0.0, -10.0))
+        georeferenced.GetRasterBand(1).WriteArray(numpy.load(db))
+        georeferenced = None
+        for name, more in (("g.npy", ()), ("g.png", ()), ("g.png", ("--world",)), ("g.tif", ()), ("g.tif", ("--cog",))):
+            for room in (0, 4096, 100_000):
+                pathlib.Path(self.at(name)).write_bytes(b"an earlier file")
+                before = sorted(os.listdir(self.folder.name))
+                # Python ignores SIGXFSZ, and so does the program where that is handed on: writes beyond the limit fail.
+                result = subprocess.run([PROGRAM, "grey", self.at("db.tif"), marks, *more, "--out", self.at(name)], capture_output=True, text=True,
+                                        restore_signals=False, preexec_fn=lambda: resource.setrlimit(resource.RLIMIT_FSIZE, (room, room)))
+                self.assertEqual(result.returncode, 74, (name, more, room, result.stderr))
+                self.assertNotIn("panicked", result.stderr)
+                self.assertEqual(pathlib.Path(self.at(name)).read_bytes(), b"an earlier file")
+                self.assertEqual(sorted(os.listdir(self.folder.name)), before, (name, more, room))
+            self.done("grey", self.at("db.tif"), marks, *more, "--out", self.at(name))
+            for made in pathlib.Path(self.folder.name).glob("g.*"):
+                made.unlink()
 
     def test_outputs(self):
         db, marks, _, _ = self.scene()

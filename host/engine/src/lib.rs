@@ -7,9 +7,10 @@ use std::fmt;
 #[derive(Clone, Copy, Debug, PartialEq, Eq)]
 pub struct Refusal(pub u8);
 
-impl fmt::Display for Refusal {
-    fn fmt(&self, f: &mut fmt::Formatter<'_>) -> fmt::Result {
-        let words = match self.0 {
+impl Refusal {
+    /// What the table says of the number.
+    pub fn meaning(self) -> &'static str {
+        match self.0 {
             1 => "rows or cols above 4,096",
             2 => "a list has not the length that the call names",
             3 => "a mark is neither 0 nor 1",
@@ -18,8 +19,13 @@ impl fmt::Display for Refusal {
             6 => "the chosen gamma is not 1.0",
             255 => "a strategy or a mode that names nothing",
             _ => "a number that the table does not have",
-        };
-        write!(f, "refused {}: {}", self.0, words)
+        }
+    }
+}
+
+impl fmt::Display for Refusal {
+    fn fmt(&self, f: &mut fmt::Formatter<'_>) -> fmt::Result {
+        write!(f, "refused {}: {}", self.0, self.meaning())
     }
 }
 
@@ -79,6 +85,10 @@ impl PolarizationOperation {
 }
 
 pub const CLAHE_WORK: usize = 16_384;
+
+/// The longest side of a raster, and the longest list of the calls without sides.
+pub const LONGEST_SIDE: usize = 4096;
+pub const LONGEST: usize = 16_777_216;
 
 /// The names of the fifteen floats of the statistics, in their order.
 pub const FLOAT_NAMES: [&str; 15] =

@@ -1,21 +1,30 @@
 //! The command line.
 
 use clap::{Args, Parser, Subcommand, ValueEnum};
+use std::ffi::OsString;
 use std::path::PathBuf;
+use wire::Part;
+
+/// The program's version with the commit that it was built from.
+pub const VERSION: &str = concat!(env!("CARGO_PKG_VERSION"), " (", env!("QUICKLOOK_COMMIT"), ")");
 
 const AFTER: &str = "\
-Rasters are NumPy .npy files of two dimensions in C order (f8 decibels, f4 intensities, u1 or b1 marks) or single-band TIFF
-files (f64 or f32). Pictures go to .png, .tif or .npy, by the name's ending. Marks are 1 where a pixel is valid and 0 where not.
+Rasters are NumPy .npy files of two dimensions and whatever GDAL opens: GeoTIFF and COG, ENVI, NetCDF, HFA, PNG and more. A raster of
+several bands is named with its band, scene.tif:2; one of two bands serves both bands of a picture. Elements are floats or whole
+numbers, taken exactly. Marks are 1 where a pixel is valid and 0 where not. Pictures go to .png, .tif or .npy, by the name's ending; a
+.tif is a GeoTIFF with the marks as its mask and the georeference of the first raster.
 
-Exit status: 0 done; 1 to 6 the number of a refusal, printed with its meaning; 64 wrong use; 74 a file that cannot be read or
-written. After anything but 0 no output is written, and an earlier file of that name stays as it was.
+Exit status: 0 done; 1 to 6 the number of a refusal, printed with its meaning, place and remedy; 64 wrong use; 74 a file that cannot be
+read or written. After anything but 0 no output is written, and an earlier file of that name stays as it was.
 
-A first run:   quicklook demo scene
-A picture:     quicklook picture scene/vv.npy scene/vv-marks.npy scene/vh.npy scene/vh-marks.npy --out sea.png --strategy tamed";
+A first run:       quicklook demo scene
+A picture:         quicklook picture scene/vv.npy scene/vv-marks.npy scene/vh.npy scene/vh-marks.npy --out sea.png --strategy tamed
+From a GeoTIFF:    quicklook picture scene.tif --marks auto --out sea.tif --strategy tamed
+A part of it:      quicklook grey scene.tif:1 --marks auto --crop 2000,3000,1024,1024 --out patch.tif";
 
 /// Radar quicklooks from decibel rasters: validity marks, statistics, windows, greys and colour pictures, each as the proved engine computes it.
 #[derive(Parser)]
-#[command(name = "quicklook", version, after_help = AFTER)]
+#[command(name = "quicklook", version = VERSION, after_help = AFTER)]
 pub struct Arguments {
     #[command(subcommand)]
     pub command: Command,
@@ -25,16 +34,34 @@ pub struct Arguments {
 pub enum Command {
     /// Marks of an intensity raster: 1 where the value lies above -50 dB
     Marks {
-        /// Intensities, f4 or a TIFF of f32
-        intensities: PathBuf,
+        /// Intensities: f32, or numbers that an f32 holds exactly
+        intensities: OsString,
+        #[command(flatten)]
+        part: PartOf,
         /// Where the marks go
         #[arg(long)]
         out: PathBuf,
+        #[command(flatten)]
+        form: Form,
+    },
+    /// The decibels of one band just as they are read, to .npy (f8), and its marks (u1)
+    Read {
+        #[command(flatten)]
+        band: BandFiles,
+        /// Where the decibels go
+        #[arg(long)]
+        out: PathBuf,
+        /// Where the marks go
+        #[arg(long)]
+        marks_out: Option<PathBuf>,
     },
     /// The statistics of one band: a count and fifteen numbers, a line each
     Stats {
         #[command(flatten)]
         band: BandFiles,
+        /// As JSON
+        #[arg(long)]
+        json: bool,
     },
     /// The window that a strategy chooses for one band: low, high, range and gamma, or blank
     Window {
@@ -42,6 +69,9 @@ pub enum Command {
         band: BandFiles,
         #[arg(long, value_enum, default_value = "default")]
         strategy: Strategy,
+        /// As JSON
+        #[arg(long)]
+        json: bool,
     },
     /// The grey picture of one band
     Grey {
@@ -54,15 +84,13 @@ pub enum Command {
         depth: Bits,
         #[arg(long)]
         out: PathBuf,
+        #[command(flatten)]
+        form: Form,
     },
     /// The colour picture of two bands, and their greys on request
     Picture {
-        /// Decibels of band 1, which counts as co-pol
-        db1: PathBuf,
-        marks1: PathBuf,
-        /// Decibels of band 2
-        db2: PathBuf,
-        marks2: PathBuf,
+        #[command(flatten)]
+        scene: SceneFiles,
         #[arg(long, value_enum, default_value = "default")]
         strategy: Strategy,
         #[arg(long, value_enum, default_value = "default")]
@@ -76,48 +104,61 @@ pub enum Command {
         /// Where the grey of band 2 goes
         #[arg(long)]
         grey2: Option<PathBuf>,
+        #[command(flatten)]
+        form: Form,
     },
     /// The colours of two 8-bit grey pictures
     Compose {
-        band1: PathBuf,
-        band2: PathBuf,
+        band1: OsString,
+        band2: OsString,
+        #[command(flatten)]
+        part: PartOf,
         #[arg(long, value_enum, default_value = "default")]
         strategy: Strategy,
         #[arg(long, value_enum, default_value = "default")]
         mode: Mode,
         #[arg(long)]
         out: PathBuf,
+        #[command(flatten)]
+        form: Form,
     },
     /// A grey picture of 16 or 8 bits stretched to 0..255
     Stretch {
-        grey: PathBuf,
+        grey: OsString,
+        #[command(flatten)]
+        part: PartOf,
         #[arg(long)]
         out: PathBuf,
+        #[command(flatten)]
+        form: Form,
     },
     /// A grey picture of 8 or 16 bits padded with zeros to a square
     Pad {
-        grey: PathBuf,
+        grey: OsString,
+        #[command(flatten)]
+        part: PartOf,
         #[arg(long)]
         out: PathBuf,
+        #[command(flatten)]
+        form: Form,
     },
     /// Arithmetic on two intensity rasters, element by element
     Op {
         #[arg(value_enum)]
         operation: Operation,
-        a: PathBuf,
-        b: PathBuf,
+        a: OsString,
+        b: OsString,
+        #[command(flatten)]
+        part: PartOf,
         #[arg(long)]
         out: PathBuf,
+        #[command(flatten)]
+        form: Form,
     },
-    /// A page for the deck: one file that opens in any browser, with the picture, its values, statistics and patches to rank
+    /// A page for the deck: one file that opens in any browser, with the picture, its values, coordinates, statistics and patches to rank
     View {
-        /// Decibels of band 1, which counts as co-pol
-        db1: PathBuf,
-        marks1: PathBuf,
-        /// Decibels of band 2; without it the page shows the grey of band 1
-        #[arg(requires = "marks2")]
-        db2: Option<PathBuf>,
-        marks2: Option<PathBuf>,
+        #[command(flatten)]
+        scene: SceneFiles,
         #[arg(long, value_enum, default_value = "default")]
         strategy: Strategy,
         #[arg(long, value_enum, default_value = "default")]
@@ -142,10 +183,91 @@ pub enum Command {
 /// The files of one band.
 #[derive(Args)]
 pub struct BandFiles {
-    /// Decibels, f8 or a TIFF of f64 or f32
-    pub db: PathBuf,
-    /// Marks, u1 or b1
-    pub marks: PathBuf,
+    /// Decibels
+    db: OsString,
+    /// Their marks; none with --marks auto, or where `read` is to give the decibels alone
+    marks_file: Option<OsString>,
+    #[command(flatten)]
+    pub reading: Reading,
+}
+
+impl BandFiles {
+    /// The rasters in the order of a scene's.
+    pub fn files(&self) -> Vec<OsString> {
+        std::iter::once(&self.db).chain(&self.marks_file).cloned().collect()
+    }
+}
+
+/// The files of a scene.
+#[derive(Args)]
+pub struct SceneFiles {
+    /// DB1 MARKS1 DB2 MARKS2, or SCENE MARKS where the scene has two bands; with --marks auto DB1 DB2, or SCENE. Band 1 counts as co-pol.
+    /// A page (view) of one band takes DB MARKS, or DB with --marks auto
+    #[arg(value_name = "RASTER", num_args = 1..=4, required = true)]
+    pub files: Vec<OsString>,
+    #[command(flatten)]
+    pub reading: Reading,
+}
+
+/// The part of a raster that is read.
+#[derive(Args)]
+pub struct PartOf {
+    /// Reads this part alone: its first row and column, from 0, and its rows and columns
+    #[arg(long, value_name = "ROW,COL,ROWS,COLS", value_parser = crop)]
+    pub crop: Option<Part>,
+}
+
+/// How decibels and marks are read.
+#[derive(Args)]
+pub struct Reading {
+    /// Reads this part alone of every raster: its first row and column, from 0, and its rows and columns
+    #[arg(long, value_name = "ROW,COL,ROWS,COLS", value_parser = crop)]
+    pub crop: Option<Part>,
+    /// Where the marks come from, in place of a file
+    #[arg(long, value_enum)]
+    pub marks: Option<Marks>,
+    /// The marks file has 255 where a pixel is valid, and 0
+    #[arg(long)]
+    pub marks_255: bool,
+    /// What to do with the scale and offset of a band that has them
+    #[arg(long, value_enum)]
+    pub scaling: Option<Scaling>,
+    /// Takes the values as decibels though their unit or description says something else
+    #[arg(long)]
+    pub as_decibels: bool,
+}
+
+/// What is written beside the elements.
+#[derive(Args, Clone, Copy)]
+pub struct Form {
+    /// Makes a .tif a cloud optimized GeoTIFF
+    #[arg(long)]
+    pub cog: bool,
+    /// Writes a world file and an .aux.xml beside a .png
+    #[arg(long)]
+    pub world: bool,
+}
+
+fn crop(text: &str) -> Result<Part, String> {
+    let numbers: Option<Vec<usize>> = text.split(',').map(|word| word.trim().parse().ok()).collect();
+    match numbers.as_deref() {
+        Some(&[row, col, rows, cols]) if rows > 0 && cols > 0 => Ok(Part { row, col, rows, cols }),
+        _ => Err("four whole numbers: first row, first column, rows and columns".into()),
+    }
+}
+
+#[derive(Clone, Copy, PartialEq, Eq, ValueEnum)]
+pub enum Marks {
+    /// The decibels' own raster: its nodata value, mask band or alpha band, and NaN
+    Auto,
+}
+
+#[derive(Clone, Copy, PartialEq, Eq, ValueEnum)]
+pub enum Scaling {
+    /// value x scale + offset
+    Apply,
+    /// The numbers as they stand in the file
+    Raw,
 }
 
 #[derive(Clone, Copy, ValueEnum)]
@@ -156,14 +278,22 @@ pub enum Bits {
     Sixteen,
 }
 
+/// The strategies, in the order of types.rs.
 #[derive(Clone, Copy, ValueEnum)]
 pub enum Strategy {
+    /// By the scene's spread: p02 to p98, or wide of the quartiles where they lie within 5 dB; a spread under 15 dB chooses gamma 1.1, else one over 40 dB with wider quartiles 0.9, and both are refused 6
     Standard,
+    /// Quartiles widened by 2.5 interquartile ranges, within p01 to p99: where ships or land would spoil the window
     Robust,
+    /// By skewness and tails, with a gamma of its own; refused 6 where it is not 1.0
     Adaptive,
+    /// p01 to p99: the widest window
     Equalized,
+    /// Local contrast in 8 by 8 tiles: shows structure, but greys of different tiles cannot be ranked
     Clahe,
+    /// Dark water kept dark: p25 to p99 for a grey; in a picture p02 or p05 (co-pol) and p05 (cross-pol) to p99, and suppressed colours
     Tamed,
+    /// p05 to p95: the one to rank patches of sea by
     Default,
 }
 
@@ -173,11 +303,16 @@ impl From<Strategy> for engine::AutoscaleStrategy {
     }
 }
 
+/// The modes, in the order of types.rs. All four give the same colours.
 #[derive(Clone, Copy, ValueEnum)]
 pub enum Mode {
+    /// Red of band 1, green of band 2, blue of their ratio
     Default,
+    /// The same colours as default
     RgbRatio,
+    /// The same colours as default
     SarUrban,
+    /// The same colours as default
     Enhanced,
 }
 

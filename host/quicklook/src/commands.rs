@@ -1,91 +1,200 @@
 //! The commands: read, lend, write.
 
-use crate::arguments::{BandFiles, Bits, Command};
+use crate::arguments::{BandFiles, Bits, Command, Form, Marks, PartOf, Reading, SceneFiles};
 use crate::demo;
-use crate::output::{self, Picture};
-use crate::progress::step;
-use crate::raster::{self, Depth, Raster};
+use crate::elements::Kind;
+use crate::explain;
+use crate::json::Json;
+use crate::origin::{self, Items};
+use crate::output::{self, Parts, Picture, Sheet};
+use crate::progress::{note, step};
+use crate::said::Role;
+use crate::scene::{self, judge_limit, same_sides, tell_elsewhere, Origin, Scene, Wanted};
+use crate::source::{List, Name, Source};
 use crate::trouble::{Outcome, Trouble};
 use crate::view;
-use engine::{AutoscaleStrategy, Band, PictureOut, PolarizationOperation, SyntheticRgbMode};
+use engine::{AutoscaleStrategy, PictureOut, PolarizationOperation, SyntheticRgbMode, Window};
+use std::ffi::{OsStr, OsString};
 use std::io::Write;
 use std::path::{Path, PathBuf};
+use wire::{Georeference, Part};
 
 pub fn run(command: Command) -> Outcome<()> {
     match command {
-        Command::Marks { intensities, out } => marks(&intensities, &out),
-        Command::Stats { band } => stats(&band),
-        Command::Window { band, strategy } => window(&band, strategy.into()),
-        Command::Grey { band, strategy, depth, out } => grey(&band, strategy.into(), depth, &out),
-        Command::Picture { db1, marks1, db2, marks2, strategy, mode, out, grey1, grey2 } => picture(
-            &BandFiles { db: db1, marks: marks1 },
-            &BandFiles { db: db2, marks: marks2 },
-            strategy.into(),
-            mode.into(),
-            &out,
-            grey1,
-            grey2,
-        ),
-        Command::Compose { band1, band2, strategy, mode, out } => compose(&band1, &band2, strategy.into(), mode.into(), &out),
-        Command::Stretch { grey, out } => stretch(&grey, &out),
-        Command::Pad { grey, out } => pad(&grey, &out),
-        Command::Op { operation, a, b, out } => operate(operation.into(), &a, &b, &out),
-        Command::View { db1, marks1, db2, marks2, strategy, mode, title, out } => {
-            let second = db2.zip(marks2).map(|(db, marks)| BandFiles { db, marks });
-            view::run(&BandFiles { db: db1, marks: marks1 }, second.as_ref(), strategy.into(), mode.into(), title, &out)
+        Command::Marks { intensities, part, out, form } => marks(&intensities, part, &out, form),
+        Command::Read { band, out, marks_out } => read(&band.files(), &band.reading, &out, marks_out.as_deref()),
+        Command::Stats { band, json } => stats(&band, json),
+        Command::Window { band, strategy, json } => window(&band, strategy.into(), json),
+        Command::Grey { band, strategy, depth, out, form } => grey(&band, strategy.into(), depth, &out, form),
+        Command::Picture { scene, strategy, mode, out, grey1, grey2, form } => {
+            picture(&scene, strategy.into(), mode.into(), [Some(out), grey1, grey2], form)
         }
+        Command::Compose { band1, band2, part, strategy, mode, out, form } => compose([&band1, &band2], part, strategy.into(), mode.into(), &out, form),
+        Command::Stretch { grey, part, out, form } => stretch(&grey, part, &out, form),
+        Command::Pad { grey, part, out, form } => pad(&grey, part, &out, form),
+        Command::Op { operation, a, b, part, out, form } => operate(operation.into(), [&a, &b], part, &out, form),
+        Command::View { scene, strategy, mode, title, out } => view::run(&scene, strategy.into(), mode.into(), title, &out),
         Command::Demo { folder, side } => demo::run(&folder, side),
     }
 }
 
-/// Decibels and marks of one band, of the same sides.
-pub struct BandRasters {
-    db: Raster<f64>,
-    marks: Raster<u8>,
+/// A raster of a command without marks, judged by its header.
+struct Single {
+    source: Source,
+    part: Part,
+    georeference: Georeference,
+    origin: Origin,
 }
 
-impl BandRasters {
-    pub fn read(files: &BandFiles) -> Outcome<Self> {
-        let (db, marks) = rayon::join(|| raster::decibels(&files.db), || raster::marks(&files.marks));
-        let (db, marks) = (db?, marks?);
-        same_sides(&files.db, (db.rows, db.cols), &files.marks, (marks.rows, marks.cols))?;
-        Ok(BandRasters { db, marks })
+impl Single {
+    fn open(name: &OsStr, crop: Option<Part>, role: Role, judge_sides: fn(&Source, Part) -> Outcome<()>) -> Outcome<Single> {
+        let source = Source::open(&Name::new(name), 1)?;
+        let part = source.part(crop)?;
+        judge_sides(&source, part)?;
+        source.judge(role)?;
+        source.notes.iter().for_each(|text| note(&format!("{}: GDAL says: {text}", source.shown)));
+        let georeference = source.georeference.moved(part.row as f64, part.col as f64);
+        let origin = Origin { files: source.files.clone(), crop };
+        Ok(Single { source, part, georeference, origin })
     }
 
-    pub fn sides(&self) -> (usize, usize) {
-        (self.db.rows, self.db.cols)
+    /// Two rasters of the same sides; the first one's georeference is the result's.
+    fn open_two(names: [&OsStr; 2], crop: Option<Part>, role: Role) -> Outcome<[Single; 2]> {
+        let (a, b) = rayon::join(|| Single::open(names[0], crop, role, judge_length), || Single::open(names[1], crop, role, judge_length));
+        let (mut a, mut b) = (a?, b?);
+        same_sides((&a.source, a.part), (&b.source, b.part))?;
+        tell_elsewhere(&a.source, &b.source);
+        a.origin.files.append(&mut b.origin.files);
+        Ok([a, b])
     }
 
-    pub fn band(&self) -> Band<'_> {
-        Band { db: self.db.elements(), valid_mask: self.marks.elements() }
+    /// Elements as f32, where each is one.
+    fn f32s(&self) -> Outcome<List<f32>> {
+        let take = |v: f64| if f64::from(v as f32) == v || v.is_nan() { Some(v as f32) } else { None };
+        self.source.list(self.part, take).map_err(|failed| failed.trouble(&self.source, "is a number that no f32 holds"))
+    }
+
+    fn u8s(&self) -> Outcome<List<u8>> {
+        if self.source.kind() != Some(Kind::U8) {
+            return Err(Trouble::named(&self.source.shown, "grey of 8 bits is wanted here"));
+        }
+        self.source.list(self.part, |v| Some(v as u8)).map_err(|failed| failed.trouble(&self.source, ""))
+    }
+
+    fn u16s(&self) -> Outcome<List<u16>> {
+        self.source.list(self.part, |v| Some(v as u16)).map_err(|failed| failed.trouble(&self.source, ""))
+    }
+
+    /// Marks by the raster's own mask (nodata, a mask band, alpha), where it has one.
+    fn own_marks(&self) -> Outcome<Option<Vec<u8>>> {
+        let mask = self.source.mask(self.part)?;
+        Ok(mask.map(|mask| mask.into_iter().map(|byte| u8::from(byte != 0)).collect()))
+    }
+
+    fn write(&self, command: &str, out: &Path, picture: Picture, marks: Option<&[u8]>, form: Form) -> Outcome<()> {
+        output::spare_inputs(&[out], &self.origin.files)?;
+        let origin = origin::items(command, &self.origin);
+        let Part { rows, cols, .. } = self.part;
+        let sheet = Sheet { rows, cols, picture, marks, georeference: &self.georeference, origin: &origin, form };
+        step("writing", || Parts::write(out, &sheet)?.finish())
     }
 }
 
-pub fn same_sides(a: &Path, of_a: (usize, usize), b: &Path, of_b: (usize, usize)) -> Outcome<()> {
-    if of_a == of_b {
+/// Refusal 2 from the header alone: the calls without sides take a list of this length at most.
+fn judge_length(source: &Source, part: Part) -> Outcome<()> {
+    let Part { rows, cols, .. } = part;
+    if rows.checked_mul(cols).is_some_and(|n| n <= engine::LONGEST) {
         return Ok(());
     }
-    let words = |(rows, cols): (usize, usize)| format!("{rows} rows of {cols}");
-    Err(Trouble::file(b, format!("{}, but {} has {}", words(of_b), a.display(), words(of_a))))
+    let name = &source.shown;
+    Err(Trouble::Refused(2, format!("{name} has {rows} rows of {cols}, and the list may have 16,777,216 elements; read a part of it with --crop ROW,COL,ROWS,COLS")))
 }
 
-/// Room for n elements. A side above 4,096 is refused by the engine, so no room is made for it.
+/// Valid in both, where either says.
+fn both(one: Option<Vec<u8>>, two: Option<Vec<u8>>) -> Option<Vec<u8>> {
+    match (one, two) {
+        (Some(one), Some(two)) => Some(one.iter().zip(two).map(|(a, b)| a & b).collect()),
+        (one, two) => one.or(two),
+    }
+}
+
+/// Room for n elements. A side above 4,096 is refused before, so no room is made for it.
 pub fn room<T: Clone + Default>(rows: usize, cols: usize, each: usize) -> Vec<T> {
-    if rows > 4096 || cols > 4096 { Vec::new() } else { vec![T::default(); rows * cols * each] }
+    if rows > engine::LONGEST_SIDE || cols > engine::LONGEST_SIDE { Vec::new() } else { vec![T::default(); rows * cols * each] }
 }
 
-fn marks(intensities: &Path, out: &Path) -> Outcome<()> {
-    output::check(out, false)?;
-    let raster = step("reading", || raster::intensities(intensities))?;
-    let mut marks = vec![0u8; raster.elements().len()];
-    step("marks", || engine::marks(raster.elements(), &mut marks))?;
-    step("writing", || output::write(out, raster.rows, raster.cols, Picture::Marks(&marks)))
+fn marks(intensities: &OsStr, part: PartOf, out: &Path, form: Form) -> Outcome<()> {
+    output::check(out, false, form)?;
+    let single = Single::open(intensities, part.crop, Role::Intensities, judge_length)?;
+    let list = step("reading", || single.f32s())?;
+    let mut marks = vec![0u8; list.elements().len()];
+    step("marks", || engine::marks(list.elements(), &mut marks))?;
+    if let Some(own) = single.own_marks()? {
+        let more = marks.iter().zip(&own).filter(|(mark, own)| **mark > **own).count();
+        if more > 0 {
+            note(&format!("{}: {more} pixels more are invalid, by the raster's own nodata, mask or alpha", single.source.shown));
+            marks.iter_mut().zip(own).for_each(|(mark, own)| *mark &= own);
+        }
+    }
+    single.write("marks", out, Picture::Marks(&marks), None, form)
 }
 
-fn stats(files: &BandFiles) -> Outcome<()> {
-    let read = step("reading", || BandRasters::read(files))?;
-    let (rows, cols) = read.sides();
-    let statistics = step("statistics", || engine::statistics(rows, cols, read.band()))?;
+fn read(files: &[OsString], reading: &Reading, out: &Path, marks_out: Option<&Path>) -> Outcome<()> {
+    const PLAIN: Form = Form { cog: false, world: false };
+    for path in std::iter::once(out).chain(marks_out) {
+        if path.extension() != Some(OsStr::new("npy")) {
+            return Err(Trouble::Usage(format!("{}: name an output that ends in .npy", path.display())));
+        }
+    }
+    let sheet = |rows: usize, cols: usize, picture| {
+        const NONE: &Georeference = &Georeference { transform: None, crs: None, gcps: Vec::new(), gcp_crs: None, area_or_point: None };
+        const NOTHING: &Items = &Vec::new();
+        Sheet { rows, cols, picture, marks: None, georeference: NONE, origin: NOTHING, form: PLAIN }
+    };
+    if files.len() == 1 && reading.marks != Some(Marks::Auto) {
+        if marks_out.is_some() {
+            return Err(Trouble::Usage("marks are needed for --marks-out: name a marks file, or give --marks auto".into()));
+        }
+        let single = Single::open(&files[0], reading.crop, Role::Decibels { as_decibels: reading.as_decibels }, judge_limit)?;
+        let (db, scaled) = step("reading", || scene::decibels(&single.source, single.part, reading.scaling))?;
+        scaled.iter().for_each(|text| note(text));
+        output::spare_inputs(&[out], &single.origin.files)?;
+        return Parts::write(out, &sheet(single.part.rows, single.part.cols, Picture::F64(db.elements())))?.finish();
+    }
+    let scene = step("reading", || Scene::read(files, Wanted::One, reading))?;
+    explain::first_mark(&scene).map_or(Ok(()), Err)?;
+    output::spare_inputs(&std::iter::once(out).chain(marks_out).collect::<Vec<_>>(), &scene.origin.files)?;
+    let lists = scene.bands[0].band();
+    let db = Parts::write(out, &sheet(scene.rows, scene.cols, Picture::F64(lists.db)));
+    let marks = marks_out.map(|path| Parts::write(path, &sheet(scene.rows, scene.cols, Picture::Marks(lists.valid_mask))));
+    Parts::join(std::iter::once(db).chain(marks))?.finish()
+}
+
+/// What the JSON of a band begins with.
+fn json_head(scene: &Scene) -> Json {
+    let band = &scene.bands[0];
+    let mut json = Json::default();
+    json.text("file", &band.db_name);
+    json.number("band", band.band);
+    json.text("marks", &band.marks_name);
+    json.number("rows", scene.rows);
+    json.number("cols", scene.cols);
+    if let Some(crop) = scene.origin.crop {
+        json.raw("crop", &format!("[{},{},{},{}]", crop.row, crop.col, crop.rows, crop.cols));
+    }
+    json
+}
+
+fn stats(files: &BandFiles, as_json: bool) -> Outcome<()> {
+    let scene = step("reading", || Scene::read(&files.files(), Wanted::One, &files.reading))?;
+    let answer = step("statistics", || engine::statistics(scene.rows, scene.cols, scene.bands[0].band()));
+    let statistics = answer.map_err(|refusal| explain::refused(refusal, &scene, AutoscaleStrategy::Default))?;
+    if as_json {
+        let mut json = json_head(&scene);
+        json.number("valid", statistics.valid_count);
+        engine::FLOAT_NAMES.iter().zip(statistics.floats).for_each(|(name, value)| json.number(name, value));
+        return print(&json.line());
+    }
     let mut text = format!("{:<8}{}\n", "valid", statistics.valid_count);
     for (name, value) in engine::FLOAT_NAMES.iter().zip(statistics.floats) {
         text.push_str(&format!("{name:<8}{value}\n"));
@@ -93,16 +202,25 @@ fn stats(files: &BandFiles) -> Outcome<()> {
     print(&text)
 }
 
-fn window(files: &BandFiles, strategy: AutoscaleStrategy) -> Outcome<()> {
-    let read = step("reading", || BandRasters::read(files))?;
-    let (rows, cols) = read.sides();
-    let text = match step("window", || engine::window(strategy, rows, cols, read.band()))? {
-        engine::Window::Blank => "blank\n".to_string(),
-        engine::Window::Window { low, high, range, gamma } => {
-            format!("low     {low}\nhigh    {high}\nrange   {range}\ngamma   {gamma}\n")
+fn window(files: &BandFiles, strategy: AutoscaleStrategy, as_json: bool) -> Outcome<()> {
+    let scene = step("reading", || Scene::read(&files.files(), Wanted::One, &files.reading))?;
+    let answer = step("window", || engine::window(strategy, scene.rows, scene.cols, scene.bands[0].band()));
+    let window = answer.map_err(|refusal| explain::refused(refusal, &scene, strategy))?;
+    if as_json {
+        let mut json = json_head(&scene);
+        json.text("strategy", &format!("{strategy:?}").to_lowercase());
+        match window {
+            Window::Blank => json.raw("window", "null"),
+            Window::Window { low, high, range, gamma } => {
+                json.raw("window", &format!("{{\"low\":{low},\"high\":{high},\"range\":{range},\"gamma\":{gamma}}}"))
+            }
         }
-    };
-    print(&text)
+        return print(&json.line());
+    }
+    print(&match window {
+        Window::Blank => "blank\n".to_string(),
+        Window::Window { low, high, range, gamma } => format!("low     {low}\nhigh    {high}\nrange   {range}\ngamma   {gamma}\n"),
+    })
 }
 
 /// To standard output; a reader that closes it early is no trouble.
@@ -113,103 +231,137 @@ fn print(text: &str) -> Outcome<()> {
     }
 }
 
-fn grey(files: &BandFiles, strategy: AutoscaleStrategy, depth: Bits, out: &Path) -> Outcome<()> {
-    output::check(out, false)?;
-    let read = step("reading", || BandRasters::read(files))?;
-    let (rows, cols) = read.sides();
+fn grey(files: &BandFiles, strategy: AutoscaleStrategy, depth: Bits, out: &Path, form: Form) -> Outcome<()> {
+    output::check(out, false, form)?;
+    let scene = step("reading", || Scene::read(&files.files(), Wanted::One, &files.reading))?;
+    output::spare_inputs(&[out], &scene.origin.files)?;
+    let (rows, cols) = (scene.rows, scene.cols);
+    let band = scene.bands[0].band();
     let mut work = vec![0f64; strategy.work_len()];
-    match depth {
-        Bits::Eight => {
-            let mut greys = room::<u8>(rows, cols, 1);
-            step("painting", || engine::grey_u8(strategy, rows, cols, read.band(), &mut greys, &mut work))?;
-            step("writing", || output::write(out, rows, cols, Picture::Grey8(&greys)))
-        }
-        Bits::Sixteen => {
-            let mut greys = room::<u16>(rows, cols, 1);
-            step("painting", || engine::grey_u16(strategy, rows, cols, read.band(), &mut greys, &mut work))?;
-            step("writing", || output::write(out, rows, cols, Picture::Grey16(&greys)))
-        }
-    }
+    let (mut narrow, mut wide) = (Vec::new(), Vec::new());
+    let (painted, origin) = step("painting", || {
+        rayon::join(
+            || match depth {
+                Bits::Eight => {
+                    narrow = room::<u8>(rows, cols, 1);
+                    engine::grey_u8(strategy, rows, cols, band, &mut narrow, &mut work)
+                }
+                Bits::Sixteen => {
+                    wide = room::<u16>(rows, cols, 1);
+                    engine::grey_u16(strategy, rows, cols, band, &mut wide, &mut work)
+                }
+            },
+            || origin::painted("grey", &scene, strategy, None),
+        )
+    });
+    painted.map_err(|refusal| explain::refused(refusal, &scene, strategy))?;
+    let picture = match depth {
+        Bits::Eight => Picture::Grey8(&narrow),
+        Bits::Sixteen => Picture::Grey16(&wide),
+    };
+    let sheet = Sheet { rows, cols, picture, marks: Some(band.valid_mask), georeference: &scene.georeference, origin: &origin, form };
+    step("writing", || Parts::write(out, &sheet)?.finish())
 }
 
-fn picture(
-    files1: &BandFiles, files2: &BandFiles, strategy: AutoscaleStrategy, mode: SyntheticRgbMode, out: &Path, out1: Option<PathBuf>,
-    out2: Option<PathBuf>,
-) -> Outcome<()> {
-    output::check(out, false)?;
-    for path in out1.iter().chain(&out2) {
-        output::check(path, false)?;
+/// The outputs are the colours, the grey of band 1 and the grey of band 2.
+fn picture(files: &SceneFiles, strategy: AutoscaleStrategy, mode: SyntheticRgbMode, outs: [Option<PathBuf>; 3], form: Form) -> Outcome<()> {
+    for path in outs.iter().flatten() {
+        output::check(path, false, form)?;
     }
-    let (band1, band2) = step("reading", || rayon::join(|| BandRasters::read(files1), || BandRasters::read(files2)));
-    let (band1, band2) = (band1?, band2?);
-    same_sides(&files1.db, band1.sides(), &files2.db, band2.sides())?;
-    let (rows, cols) = band1.sides();
+    let scene = step("reading", || Scene::read(&files.files, Wanted::Two, &files.reading))?;
+    output::spare_inputs(&outs.iter().flatten().map(PathBuf::as_path).collect::<Vec<_>>(), &scene.origin.files)?;
+    let (rows, cols) = (scene.rows, scene.cols);
     let mut grey1 = room::<u8>(rows, cols, 1);
     let mut grey2 = room::<u8>(rows, cols, 1);
     let mut rgb = room::<u8>(rows, cols, 3);
     let mut work = vec![0f64; strategy.work_len()];
-    step("painting", || {
+    let [band1, band2] = [scene.bands[0].band(), scene.bands[1].band()];
+    let (painted, origin) = step("painting", || {
         let lent = PictureOut { grey1: &mut grey1, grey2: &mut grey2, rgb: &mut rgb };
-        engine::picture(strategy, mode, rows, cols, band1.band(), band2.band(), lent, &mut work)
-    })?;
-    let save = |path: &Option<PathBuf>, greys: &[u8]| match path {
-        Some(path) => output::write(path, rows, cols, Picture::Grey8(greys)),
-        None => Ok(()),
+        rayon::join(
+            || engine::picture(strategy, mode, rows, cols, band1, band2, lent, &mut work),
+            || origin::painted("picture", &scene, strategy, Some(mode)),
+        )
+    });
+    painted.map_err(|refusal| explain::refused(refusal, &scene, strategy))?;
+    let common = scene.common_marks();
+    let save = |path: &Option<PathBuf>, picture: Picture, marks: &[u8]| match path {
+        Some(path) => Parts::write(path, &Sheet { rows, cols, picture, marks: Some(marks), georeference: &scene.georeference, origin: &origin, form }),
+        None => Ok(Parts::default()),
     };
     step("writing", || {
         let (colours, (first, second)) = rayon::join(
-            || output::write(out, rows, cols, Picture::Rgb(&rgb)),
-            || rayon::join(|| save(&out1, &grey1), || save(&out2, &grey2)),
+            || save(&outs[0], Picture::Rgb(&rgb), &common),
+            || {
+                rayon::join(
+                    || save(&outs[1], Picture::Grey8(&grey1), band1.valid_mask),
+                    || save(&outs[2], Picture::Grey8(&grey2), band2.valid_mask),
+                )
+            },
         );
-        colours.and(first).and(second)
+        Parts::join([colours, first, second])?.finish()
     })
 }
 
-fn compose(path1: &Path, path2: &Path, strategy: AutoscaleStrategy, mode: SyntheticRgbMode, out: &Path) -> Outcome<()> {
-    output::check(out, false)?;
-    let (band1, band2) = step("reading", || rayon::join(|| raster::greys(path1), || raster::greys(path2)));
+fn compose(names: [&OsStr; 2], part: PartOf, strategy: AutoscaleStrategy, mode: SyntheticRgbMode, out: &Path, form: Form) -> Outcome<()> {
+    output::check(out, false, form)?;
+    let [one, two] = Single::open_two(names, part.crop, Role::Greys)?;
+    let (band1, band2) = step("reading", || rayon::join(|| one.u8s(), || two.u8s()));
     let (band1, band2) = (band1?, band2?);
-    same_sides(path1, (band1.rows, band1.cols), path2, (band2.rows, band2.cols))?;
     let mut rgb = vec![0u8; 3 * band1.elements().len()];
     step("composing", || engine::compose(mode, strategy, band1.elements(), band2.elements(), &mut rgb))?;
-    step("writing", || output::write(out, band1.rows, band1.cols, Picture::Rgb(&rgb)))
+    one.write("compose", out, Picture::Rgb(&rgb), both(one.own_marks()?, two.own_marks()?).as_deref(), form)
 }
 
-fn stretch(grey: &Path, out: &Path) -> Outcome<()> {
-    output::check(out, false)?;
-    let (rows, cols, data) = match step("reading", || raster::greys_of_depth(grey))? {
-        Depth::U8(raster) => (raster.rows, raster.cols, raster.elements().iter().map(|&v| u16::from(v)).collect()),
-        Depth::U16(raster) => (raster.rows, raster.cols, raster.elements().to_vec()),
-    };
-    let mut bytes = vec![0u8; data.len()];
-    step("stretching", || engine::stretch(&data, &mut bytes))?;
-    step("writing", || output::write(out, rows, cols, Picture::Grey8(&bytes)))
+fn stretch(grey: &OsStr, part: PartOf, out: &Path, form: Form) -> Outcome<()> {
+    output::check(out, false, form)?;
+    let single = Single::open(grey, part.crop, Role::Greys, judge_length)?;
+    let data = step("reading", || single.u16s())?;
+    let mut bytes = vec![0u8; data.elements().len()];
+    step("stretching", || engine::stretch(data.elements(), &mut bytes))?;
+    single.write("stretch", out, Picture::Grey8(&bytes), single.own_marks()?.as_deref(), form)
 }
 
-fn pad(grey: &Path, out: &Path) -> Outcome<()> {
-    output::check(out, false)?;
-    match step("reading", || raster::greys_of_depth(grey))? {
-        Depth::U8(raster) => {
-            let side = raster.rows.max(raster.cols);
-            let mut padded = room::<u8>(side, side, 1);
-            step("padding", || engine::pad_u8(raster.rows, raster.cols, raster.elements(), &mut padded))?;
-            step("writing", || output::write(out, side, side, Picture::Grey8(&padded)))
-        }
-        Depth::U16(raster) => {
-            let side = raster.rows.max(raster.cols);
-            let mut padded = room::<u16>(side, side, 1);
-            step("padding", || engine::pad_u16(raster.rows, raster.cols, raster.elements(), &mut padded))?;
-            step("writing", || output::write(out, side, side, Picture::Grey16(&padded)))
-        }
+fn pad(grey: &OsStr, part: PartOf, out: &Path, form: Form) -> Outcome<()> {
+    output::check(out, false, form)?;
+    let mut single = Single::open(grey, part.crop, Role::Greys, judge_limit)?;
+    let Part { rows, cols, .. } = single.part;
+    let side = rows.max(cols);
+    let wide = single.source.kind() == Some(Kind::U16);
+    let (mut padded8, mut padded16) = (Vec::new(), Vec::new());
+    if wide {
+        let data = step("reading", || single.u16s())?;
+        padded16 = room::<u16>(side, side, 1);
+        step("padding", || engine::pad_u16(rows, cols, data.elements(), &mut padded16))?;
+    } else {
+        let data = step("reading", || single.u8s())?;
+        padded8 = room::<u8>(side, side, 1);
+        step("padding", || engine::pad_u8(rows, cols, data.elements(), &mut padded8))?;
     }
+    let marks = match single.own_marks()? {
+        Some(own) => {
+            let mut padded = room::<u8>(side, side, 1);
+            engine::pad_u8(rows, cols, &own, &mut padded)?;
+            Some(padded)
+        }
+        None => None,
+    };
+    // The square begins as far above and left of the grey as the padding is wide.
+    single.georeference = single.georeference.moved(-(((side - rows) / 2) as f64), -(((side - cols) / 2) as f64));
+    single.part = Part { rows: side, cols: side, ..single.part };
+    single.write("pad", out, if wide { Picture::Grey16(&padded16) } else { Picture::Grey8(&padded8) }, marks.as_deref(), form)
 }
 
-fn operate(operation: PolarizationOperation, a: &Path, b: &Path, out: &Path) -> Outcome<()> {
-    output::check(out, true)?;
-    let (of_a, of_b) = step("reading", || rayon::join(|| raster::intensities(a), || raster::intensities(b)));
+fn operate(operation: PolarizationOperation, names: [&OsStr; 2], part: PartOf, out: &Path, form: Form) -> Outcome<()> {
+    output::check(out, true, form)?;
+    let [a, b] = Single::open_two(names, part.crop, Role::Numbers)?;
+    let (of_a, of_b) = step("reading", || rayon::join(|| a.f32s(), || b.f32s()));
     let (of_a, of_b) = (of_a?, of_b?);
-    same_sides(a, (of_a.rows, of_a.cols), b, (of_b.rows, of_b.cols))?;
     let mut result = vec![0f32; of_a.elements().len()];
     step("arithmetic", || engine::operate(operation, of_a.elements(), of_b.elements(), &mut result))?;
-    step("writing", || output::write(out, of_a.rows, of_a.cols, Picture::F32(&result)))
+    let marks = both(a.own_marks()?, b.own_marks()?);
+    if let Some(invalid) = marks.as_ref().map(|marks| marks.iter().filter(|mark| **mark == 0).count()).filter(|invalid| *invalid > 0) {
+        note(&format!("{invalid} pixels are invalid by the rasters' own nodata, mask or alpha: what stands there in the result is no answer"));
+    }
+    a.write("op", out, Picture::F32(&result), marks.as_deref(), form)
 }

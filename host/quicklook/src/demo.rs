@@ -1,12 +1,17 @@
 //! A synthetic two-band sea scene (swell, a lee behind an island, ships, a coast without data), and every step of a quicklook on it.
 
-use crate::npy::{self, Kind};
-use crate::output::{self, Picture};
+use crate::arguments::Form;
+use crate::elements::Kind;
+use crate::npy;
+use crate::origin;
+use crate::output::{Parts, Picture, Sheet};
 use crate::progress::step;
+use crate::scene::Origin;
 use crate::trouble::{Outcome, Trouble};
 use engine::{AutoscaleStrategy, Band, PictureOut, SyntheticRgbMode, Window};
 use std::fs;
 use std::path::Path;
+use wire::Georeference;
 
 /// Numbers that look random and are the same in every run.
 struct Noise(u64);
@@ -69,6 +74,14 @@ fn save_npy(path: &Path, kind: Kind, side: usize, bytes: impl Iterator<Item = u8
     fs::write(path, file).map_err(|e| Trouble::file(path, e))
 }
 
+/// A result of the demo, whose origin is the program alone.
+fn save(path: &Path, side: usize, picture: Picture) -> Outcome<()> {
+    let origin = origin::items("demo", &Origin::default());
+    let form = Form { cog: false, world: false };
+    let sheet = Sheet { rows: side, cols: side, picture, marks: None, georeference: &Georeference::default(), origin: &origin, form };
+    Parts::write(path, &sheet)?.finish()
+}
+
 pub fn run(folder: &Path, side: usize) -> Outcome<()> {
     if side == 0 || side > 4096 {
         return Err(Trouble::Usage("a demo scene has 1 to 4096 rows and columns".into()));
@@ -84,7 +97,7 @@ pub fn run(folder: &Path, side: usize) -> Outcome<()> {
         save_npy(&at(&format!("{name}.npy")), Kind::F64, side, db.iter().flat_map(|v| v.to_le_bytes()))?;
         let mut valid_mask = vec![0u8; list.len()];
         step("marks", || engine::marks(list, &mut valid_mask))?;
-        output::write(&at(&format!("{name}-marks.npy")), side, side, Picture::Marks(&valid_mask))?;
+        save(&at(&format!("{name}-marks.npy")), side, Picture::Marks(&valid_mask))?;
 
         let band = Band { db: &db, valid_mask: &valid_mask };
         let statistics = step("statistics", || engine::statistics(side, side, band))?;
@@ -97,7 +110,7 @@ pub fn run(folder: &Path, side: usize) -> Outcome<()> {
         }
         let mut greys = vec![0u16; list.len()];
         step("grey", || engine::grey_u16(AutoscaleStrategy::Default, side, side, band, &mut greys, &mut []))?;
-        output::write(&at(&format!("{name}-grey16.png")), side, side, Picture::Grey16(&greys))?;
+        save(&at(&format!("{name}-grey16.png")), side, Picture::Grey16(&greys))?;
         made.push((db, valid_mask));
     }
 
@@ -110,9 +123,9 @@ pub fn run(folder: &Path, side: usize) -> Outcome<()> {
         let name = format!("{strategy:?}").to_lowercase();
         match step("picture", || engine::picture(strategy, SyntheticRgbMode::Default, side, side, band(0), band(1), lent, &mut work)) {
             Ok(()) => {
-                output::write(&at(&format!("{name}-rgb.png")), side, side, Picture::Rgb(&rgb))?;
-                output::write(&at(&format!("{name}-grey1.png")), side, side, Picture::Grey8(&grey1))?;
-                output::write(&at(&format!("{name}-grey2.png")), side, side, Picture::Grey8(&grey2))?;
+                save(&at(&format!("{name}-rgb.png")), side, Picture::Rgb(&rgb))?;
+                save(&at(&format!("{name}-grey1.png")), side, Picture::Grey8(&grey1))?;
+                save(&at(&format!("{name}-grey2.png")), side, Picture::Grey8(&grey2))?;
             }
             Err(refusal) => println!("{name}: {refusal}"),
         }

@@ -4,10 +4,17 @@
 mod arguments;
 mod commands;
 mod demo;
+mod elements;
+mod explain;
+mod gdal;
+mod json;
 mod npy;
+mod origin;
 mod output;
 mod progress;
-mod raster;
+mod said;
+mod scene;
+mod source;
 mod trouble;
 mod view;
 

@@ -1,48 +1,21 @@
-//! NumPy's .npy files: little-endian f8, f4, u2, u1 and b1 in C order, of two dimensions.
+//! NumPy's .npy files of two dimensions: where their elements stand, and headers of new ones.
 
+use crate::elements::{Kind, Layout};
 use crate::trouble::{Outcome, Trouble};
 use std::path::Path;
 
+/// Where the elements of a file begin, how they stand, and the two sides.
 #[derive(Clone, Copy, Debug, PartialEq, Eq)]
-pub enum Kind {
-    F64,
-    F32,
-    U16,
-    U8,
-    Bool,
-}
-
-impl Kind {
-    pub fn width(self) -> usize {
-        match self {
-            Kind::F64 => 8,
-            Kind::F32 => 4,
-            Kind::U16 => 2,
-            Kind::U8 | Kind::Bool => 1,
-        }
-    }
-
-    fn descr(self) -> &'static str {
-        match self {
-            Kind::F64 => "<f8",
-            Kind::F32 => "<f4",
-            Kind::U16 => "<u2",
-            Kind::U8 => "|u1",
-            Kind::Bool => "|b1",
-        }
-    }
-}
-
-/// Where the elements of a file begin, their kind and the two sides.
-#[derive(Debug, PartialEq, Eq)]
 pub struct Header {
-    pub kind: Kind,
+    pub layout: Layout,
+    /// Column by column.
+    pub fortran: bool,
     pub rows: usize,
     pub cols: usize,
     pub start: usize,
 }
 
-const MAGIC: &[u8; 6] = b"\x93NUMPY";
+pub const MAGIC: &[u8; 6] = b"\x93NUMPY";
 
 /// Reads the header and checks that the file holds just the elements that it names.
 pub fn header(path: &Path, bytes: &[u8]) -> Outcome<Header> {
@@ -57,29 +30,38 @@ pub fn header(path: &Path, bytes: &[u8]) -> Outcome<Header> {
     };
     let start = at.checked_add(len).filter(|&end| end <= bytes.len()).ok_or_else(|| bad("truncated .npy header"))?;
     let text = std::str::from_utf8(&bytes[at..start]).map_err(|_| bad("a .npy header that is not text"))?;
-    let kind = match field(text, "descr").and_then(quoted) {
-        Some("<f8") => Kind::F64,
-        Some("<f4") => Kind::F32,
-        Some("<u2") => Kind::U16,
-        Some("|u1") | Some("<u1") => Kind::U8,
-        Some("|b1") => Kind::Bool,
-        Some(other) => return Err(bad(&format!("element type {other}: f8, f4, u2, u1 or b1, little-endian, is read"))),
+    let layout = match field(text, "descr").and_then(quoted) {
+        Some(descr) => layout(descr).ok_or_else(|| bad(&format!("element type {descr}: floats, whole numbers and bools are read")))?,
         None => return Err(bad("a .npy header without an element type")),
     };
-    match field(text, "fortran_order") {
-        Some(rest) if rest.starts_with("False") => {}
-        Some(rest) if rest.starts_with("True") => return Err(bad("Fortran order: save it in C order")),
+    let fortran = match field(text, "fortran_order") {
+        Some(rest) if rest.starts_with("False") => false,
+        Some(rest) if rest.starts_with("True") => true,
         _ => return Err(bad("a .npy header without its order")),
-    }
+    };
     let sides = field(text, "shape").and_then(tuple).ok_or_else(|| bad("a .npy header without a shape"))?;
     let [rows, cols] = sides[..] else {
         return Err(bad(&format!("{} dimensions: two are read", sides.len())));
     };
-    let wanted = rows.checked_mul(cols).and_then(|n| n.checked_mul(kind.width())).ok_or_else(|| bad("a shape that is too large"))?;
+    if rows.max(cols) > i32::MAX as usize {
+        return Err(bad("a shape that is too large"));
+    }
+    let wanted = rows.checked_mul(cols).and_then(|n| n.checked_mul(layout.kind.width())).ok_or_else(|| bad("a shape that is too large"))?;
     match bytes.len() - start {
         there if there < wanted => Err(bad(&format!("truncated: {there} of {wanted} bytes of elements"))),
         there if there > wanted => Err(bad(&format!("{} bytes beyond the last element", there - wanted))),
-        _ => Ok(Header { kind, rows, cols, start }),
+        _ => Ok(Header { layout, fortran, rows, cols, start }),
+    }
+}
+
+/// An element type in NumPy's words: byte order, then kind and width.
+fn layout(descr: &str) -> Option<Layout> {
+    let kind = Kind::of_name(descr.get(1..)?)?;
+    match descr.as_bytes()[0] {
+        b'<' | b'=' => Some(Layout { kind, big_endian: false }),
+        b'>' => Some(Layout { kind, big_endian: true }),
+        b'|' if kind.width() == 1 => Some(Layout { kind, big_endian: false }),
+        _ => None,
     }
 }
 
@@ -112,7 +94,8 @@ pub fn new_rgb_header(rows: usize, cols: usize) -> Vec<u8> {
 }
 
 fn shaped_header(kind: Kind, shape: &str) -> Vec<u8> {
-    let mut text = format!("{{'descr': '{}', 'fortran_order': False, 'shape': {}, }}", kind.descr(), shape);
+    let order = if kind.width() == 1 { '|' } else { '<' };
+    let mut text = format!("{{'descr': '{order}{}', 'fortran_order': False, 'shape': {shape}, }}", kind.name());
     while (10 + text.len() + 1) % 64 != 0 {
         text.push(' ');
     }
@@ -139,12 +122,24 @@ mod tests {
             let start = bytes.len();
             assert_eq!(start % 64, 0);
             bytes.resize(start + 15 * kind.width(), 0);
-            assert_eq!(read(&bytes), Ok(Header { kind, rows: 3, cols: 5, start }));
+            let layout = Layout { kind, big_endian: false };
+            assert_eq!(read(&bytes), Ok(Header { layout, fortran: false, rows: 3, cols: 5, start }));
             bytes.pop();
             assert!(read(&bytes).unwrap_err().contains("truncated"));
             bytes.extend([0, 0]);
             assert!(read(&bytes).unwrap_err().contains("beyond"));
         }
+    }
+
+    #[test]
+    fn orders_are_told() {
+        let mut bytes = b"\x93NUMPY\x01\x00".to_vec();
+        let text = "{'descr': '>i2', 'fortran_order': True, 'shape': (2, 3), }";
+        bytes.extend((text.len() as u16).to_le_bytes());
+        bytes.extend(text.as_bytes());
+        bytes.extend([0; 12]);
+        let head = read(&bytes).unwrap();
+        assert_eq!((head.layout, head.fortran, head.rows, head.cols), (Layout { kind: Kind::I16, big_endian: true }, true, 2, 3));
     }
 
     #[test]
@@ -160,8 +155,10 @@ mod tests {
         assert!(read(b"\x93NUMPY\x09\x00\x00\x00").unwrap_err().contains("version"));
         assert!(read(&whole("{}")[..9]).unwrap_err().contains("not a .npy"));
         assert!(read(b"\x93NUMPY\x01\x00\xff\xff{").unwrap_err().contains("truncated"));
-        assert!(read(&whole("{'descr': '>f8', 'fortran_order': False, 'shape': (1, 1), }")).unwrap_err().contains(">f8"));
-        assert!(read(&whole("{'descr': '<f8', 'fortran_order': True, 'shape': (1, 1), }")).unwrap_err().contains("Fortran"));
+        for descr in ["<c16", "<U4", "|O", "|f8", "<f16", "", "<"] {
+            let header = format!("{{'descr': '{descr}', 'fortran_order': False, 'shape': (1, 1), }}");
+            assert!(read(&whole(&header)).unwrap_err().contains("element type"), "{descr}");
+        }
         assert!(read(&whole("{'descr': '<f8', 'fortran_order': False, 'shape': (1,), }")).unwrap_err().contains("1 dimensions"));
         assert!(read(&whole("{'descr': '<f8', 'fortran_order': False, 'shape': (99999999999, 99999999999), }")).unwrap_err().contains("too large"));
         assert!(read(&whole("{'descr': '<f8', 'fortran_order': False, 'shape': (1, -1), }")).unwrap_err().contains("shape"));

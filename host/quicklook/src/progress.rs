@@ -1,6 +1,7 @@
 //! What the program is doing, shown on a terminal only.
 
 use indicatif::{ProgressBar, ProgressStyle};
+use std::io::Write;
 use std::time::Duration;
 
 /// Runs a step; a terminal shows its name while it lasts.
@@ -12,4 +13,9 @@ pub fn step<T>(name: &'static str, work: impl FnOnce() -> T) -> T {
     let result = work();
     bar.finish_and_clear();
     result
+}
+
+/// A line for the user beside the results; where standard error is closed there is nobody to tell.
+pub fn note(text: &str) {
+    let _ = writeln!(std::io::stderr(), "quicklook: {text}");
 }

@@ -1,17 +1,21 @@
 //! The deck viewer's page: what the engine computed, packed into one HTML file that needs no network.
 
-use crate::arguments::BandFiles;
-use crate::commands::{room, same_sides, BandRasters};
-use crate::output;
-use crate::progress::step;
+use crate::arguments::SceneFiles;
+use crate::commands::room;
+use crate::explain;
+use crate::json::{numbers, quoted, Json};
+use crate::origin::{self, painted_window, Items};
+use crate::output::{spare_inputs, Parts};
+use crate::progress::{note, step};
+use crate::scene::{BandRasters, Scene, Wanted};
 use crate::trouble::{Outcome, Trouble};
-use engine::{AutoscaleStrategy, PictureOut, Statistics, SyntheticRgbMode, Window};
+use engine::{Answer, AutoscaleStrategy, PictureOut, Statistics, SyntheticRgbMode, Window};
 use flate2::write::ZlibEncoder;
 use flate2::Compression;
 use rayon::prelude::*;
-use std::fmt::Write as _;
 use std::io::Write;
 use std::path::Path;
+use wire::Georeference;
 
 const PAGE: &str = include_str!("viewer/page.html");
 const STYLE: &str = include_str!("viewer/style.css");
@@ -27,26 +31,30 @@ struct List {
     bytes: Vec<u8>,
 }
 
-pub fn run(
-    files1: &BandFiles, files2: Option<&BandFiles>, strategy: AutoscaleStrategy, mode: SyntheticRgbMode, title: Option<String>, out: &Path,
-) -> Outcome<()> {
+pub fn run(files: &SceneFiles, strategy: AutoscaleStrategy, mode: SyntheticRgbMode, title: Option<String>, out: &Path) -> Outcome<()> {
     if !matches!(out.extension().and_then(|e| e.to_str()), Some("html" | "htm")) {
         return Err(Trouble::Usage(format!("{}: name a page that ends in .html", out.display())));
     }
-    let files: Vec<&BandFiles> = std::iter::once(files1).chain(files2).collect();
-    let bands = step("reading", || files.par_iter().map(|files| BandRasters::read(files)).collect::<Outcome<Vec<_>>>())?;
-    let (rows, cols) = bands[0].sides();
-    for k in 1..bands.len() {
-        same_sides(&files1.db, (rows, cols), &files[k].db, bands[k].sides())?;
-    }
-    let (first, rest) = step("painting", || paint(strategy, mode, rows, cols, &bands))?;
-    let title = title.unwrap_or_else(|| files.iter().map(|f| name_of(&f.db)).collect::<Vec<_>>().join(" and "));
-    let scene = step("statistics", || describe(&title, strategy, mode, rows, cols, &bands))?;
-
+    let read = step("reading", || Scene::read(&files.files, Wanted::OneOrTwo, &files.reading))?;
+    spare_inputs(&[out], &read.origin.files)?;
+    let (rows, cols) = (read.rows, read.cols);
+    let refused = |refusal| explain::refused(refusal, &read, strategy);
+    let (painted, origin) = step("painting", || {
+        let is_picture = read.bands.len() == 2;
+        rayon::join(|| paint(strategy, mode, &read), || origin::painted("view", &read, strategy, is_picture.then_some(mode)))
+    });
+    let (first, rest) = painted.map_err(refused)?;
+    let title = title.unwrap_or_else(|| {
+        let mut names: Vec<String> = read.bands.iter().map(|band| name_of(&band.db_name)).collect();
+        names.dedup();
+        names.join(" and ")
+    });
+    let mut scene = step("statistics", || describe(&title, strategy, mode, &read, &origin)).map_err(refused)?;
     let block_rows = (1usize << 20).div_ceil(cols.max(1)).min(rows.max(1));
-    let scene = scene.replacen('{', &format!("{{\"blockRows\":{block_rows},"), 1);
+    scene.number("blockRows", block_rows);
+    let scene = scene.object();
     step("packing", || {
-        output::replace(out, |file| {
+        Parts::fill(out, |file| {
             let bad = |e: std::io::Error| Trouble::file(out, e);
             let mut page = PAGE;
             while let Some(at) = page.find("{{") {
@@ -64,22 +72,22 @@ pub fn run(
                 page = &page[end + 2..];
             }
             file.write_all(page.as_bytes()).map_err(bad)
-        })
+        })?
+        .finish()
     })
 }
 
-fn name_of(path: &Path) -> String {
-    path.file_stem().unwrap_or_default().to_string_lossy().into_owned()
+fn name_of(shown: &str) -> String {
+    Path::new(shown).file_stem().unwrap_or_default().to_string_lossy().into_owned()
 }
 
 /// The lists of the page as the engine gives them: the one shown first, and the others.
-fn paint(
-    strategy: AutoscaleStrategy, mode: SyntheticRgbMode, rows: usize, cols: usize, bands: &[BandRasters],
-) -> Outcome<(List, Vec<List>)> {
+fn paint(strategy: AutoscaleStrategy, mode: SyntheticRgbMode, scene: &Scene) -> Answer<(List, Vec<List>)> {
+    let &Scene { rows, cols, ref bands, .. } = scene;
     let mut work = vec![0f64; strategy.work_len()];
     let mut grey1 = room::<u8>(rows, cols, 1);
     let list = |name: String, width: usize, bytes: Vec<u8>| List { name, width, bytes };
-    let (first, mut rest) = match bands {
+    let (first, mut rest) = match &bands[..] {
         [one] => {
             engine::grey_u8(strategy, rows, cols, one.band(), &mut grey1, &mut work)?;
             (list("grey1".into(), 1, grey1), Vec::new())
@@ -128,20 +136,19 @@ fn pack(out: &mut impl Write, list: &List, cols: usize, block_rows: usize) -> st
 }
 
 /// The page's description of the scene, as JSON.
-fn describe(
-    title: &str, strategy: AutoscaleStrategy, mode: SyntheticRgbMode, rows: usize, cols: usize, bands: &[BandRasters],
-) -> Outcome<String> {
+fn describe(title: &str, strategy: AutoscaleStrategy, mode: SyntheticRgbMode, scene: &Scene, origin: &Items) -> Answer<Json> {
+    let &Scene { rows, cols, ref bands, .. } = scene;
     let mut statistics = Vec::new();
     let mut windows = Vec::new();
     let mut histograms = Vec::new();
     for (k, band) in bands.iter().enumerate() {
         let s = engine::statistics(rows, cols, band.band())?;
-        windows.push(match shown_window(strategy, bands.len() == 2, k == 0, &s, rows, cols, band)? {
-            Window::Blank => "null".to_string(),
-            Window::Window { low, high, .. } => format!("{{\"low\":{low},\"high\":{high}}}"),
+        windows.push(match painted_window(scene, k, strategy, bands.len() == 2) {
+            Some(Window::Window { low, high, .. }) => format!("{{\"low\":{low},\"high\":{high}}}"),
+            Some(Window::Blank) | None => "null".to_string(),
         });
-        let numbers: Vec<String> = std::iter::once(s.valid_count.to_string()).chain(s.floats.iter().map(f64::to_string)).collect();
-        statistics.push(format!("[{}]", numbers.join(",")));
+        let list: Vec<String> = std::iter::once(s.valid_count.to_string()).chain(s.floats.iter().map(f64::to_string)).collect();
+        statistics.push(format!("[{}]", list.join(",")));
         histograms.push(histogram(&s, band));
     }
     let names: Vec<String> = std::iter::once("valid").chain(engine::FLOAT_NAMES).map(|name| format!("\"{name}\"")).collect();
@@ -149,24 +156,56 @@ fn describe(
         1 => format!("{rows} rows of {cols}, {strategy:?}"),
         _ => format!("{rows} rows of {cols}, {strategy:?}, mode {mode:?}"),
     };
-    Ok(format!(
-        "{{\"title\":{},\"about\":{},\"rows\":{rows},\"cols\":{cols},\"bands\":{},\"statisticNames\":[{}],\"statistics\":[{}],\"windows\":[{}],\"histograms\":[{}]}}",
-        quoted(title), quoted(&about), bands.len(), names.join(","), statistics.join(","), windows.join(","), histograms.join(",")
-    ))
+    let list = |parts: &[String]| format!("[{}]", parts.join(","));
+    let mut json = Json::default();
+    json.text("title", title);
+    json.text("about", &about);
+    json.number("rows", rows);
+    json.number("cols", cols);
+    if let Some(crop) = scene.origin.crop {
+        json.raw("crop", &format!("[{},{}]", crop.row, crop.col));
+    }
+    json.number("bands", bands.len());
+    json.raw("statisticNames", &list(&names));
+    json.raw("statistics", &list(&statistics));
+    json.raw("windows", &list(&windows));
+    json.raw("histograms", &list(&histograms));
+    json.raw("ground", &ground(&scene.georeference, rows, cols).unwrap_or_else(|| "null".into()));
+    let origin: Vec<String> = origin.iter().map(|(name, words)| format!("[{},{}]", quoted(name), quoted(words))).collect();
+    json.raw("origin", &list(&origin));
+    Ok(json)
 }
 
-/// The window that the page draws: the call's, but for a Tamed picture, whose two windows document 01 names by percentiles of the record.
-fn shown_window(
-    strategy: AutoscaleStrategy, of_picture: bool, is_copol: bool, s: &Statistics, rows: usize, cols: usize, band: &BandRasters,
-) -> Outcome<Window> {
-    let window = engine::window(strategy, rows, cols, band.band())?;
-    let [_, _, _, _, _, _, p02, p05, _, _, _, _, _, _, p99] = s.floats;
-    Ok(match window {
-        Window::Window { range, gamma, .. } if of_picture && strategy == AutoscaleStrategy::Tamed => {
-            Window::Window { low: if is_copol { p02.min(p05) } else { p05 }, high: p99, range, gamma }
+/// Where the pixels lie, for the page: the six numbers where there are such, and a grid of places to read between.
+fn ground(georeference: &Georeference, rows: usize, cols: usize) -> Option<String> {
+    if !georeference.is_there() || rows * cols == 0 {
+        return None;
+    }
+    let asked = (|| {
+        let mut fields = wire::Fields::default();
+        georeference.put(&mut fields);
+        fields.put("rows", rows);
+        fields.put("cols", cols);
+        let told = crate::gdal::Process::start()?.ask("places", &fields)?;
+        let lines = told.all("line").map(|words| wire::floats(words).map_err(|e| e.to_string())).collect::<Result<Vec<_>, _>>()?;
+        Ok::<_, String>((told, lines.concat()))
+    })();
+    match asked {
+        Ok((told, places)) => {
+            let mut json = Json::default();
+            json.text("crs", &told.text("crs"));
+            json.raw("transform", &georeference.transform.map_or_else(|| "null".into(), |t| numbers(&t)));
+            for name in ["step", "down", "across", "off"] {
+                json.raw(name, &told.text(name));
+            }
+            json.raw("places", &numbers(&places));
+            Some(json.object())
         }
-        other => other,
-    })
+        Err(why) => {
+            note(&format!("the page has no coordinates: {why}"));
+            None
+        }
+    }
 }
 
 /// Counts of valid decibels between the least and the greatest, for drawing only.
@@ -179,25 +218,6 @@ fn histogram(s: &Statistics, band: &BandRasters) -> String {
     }
     let counts: Vec<String> = counts.iter().map(u32::to_string).collect();
     format!("{{\"min\":{min},\"max\":{max},\"counts\":[{}]}}", counts.join(","))
-}
-
-/// A JSON string that may stand inside a script element.
-fn quoted(text: &str) -> String {
-    let mut out = String::from("\"");
-    for c in text.chars() {
-        match c {
-            '"' | '\\' => {
-                out.push('\\');
-                out.push(c);
-            }
-            c if (c as u32) < 0x20 || c == '<' => {
-                let _ = write!(out, "\\u{:04x}", c as u32);
-            }
-            c => out.push(c),
-        }
-    }
-    out.push('"');
-    out
 }
 
 fn escaped(text: &str) -> String {

@@ -58,6 +58,41 @@ const Quicklook = (() => {
     return list ? list[(row % scene.blockRows) * cols + col] : null;
   }
 
+  // ---- places on the ground: the file's own transformation, at the nodes of a grid and read between them
+
+  const ground = scene.ground;
+
+  // the place of a pixel's middle: x and y in the raster's reference system, longitude and latitude; null where there is none
+  function placeOnGround(row, col) {
+    if (!ground) return null;
+    const down = (row + 0.5) / ground.step, across = (col + 0.5) / ground.step;
+    const i = Math.min(ground.down - 2, Math.floor(down)), j = Math.min(ground.across - 2, Math.floor(across));
+    const v = down - i, u = across - j;
+    const nodes = [[i, j], [i, j + 1], [i + 1, j], [i + 1, j + 1]].map(([a, b]) => ground.places.slice(4 * (a * ground.across + b), 4 * (a * ground.across + b) + 4));
+    const between = (four) => (1 - v) * ((1 - u) * four[0] + u * four[1]) + v * ((1 - u) * four[2] + u * four[3]);
+    const number = (k) => nodes.some((node) => node[k] === null) ? null : between(nodes.map((node) => node[k]));
+    const t = ground.transform;
+    const x = t ? t[0] + (col + 0.5) * t[1] + (row + 0.5) * t[2] : number(0);
+    const y = t ? t[3] + (col + 0.5) * t[4] + (row + 0.5) * t[5] : number(1);
+    if (number(2) === null) return { x, y, longitude: null, latitude: null };
+    // longitude and latitude between points of the sphere: there is neither a date line nor a pole between them
+    const turn = Math.PI / 180;
+    const sphere = nodes.map((node) => {
+      const [longitude, latitude] = [node[2] * turn, node[3] * turn];
+      return [Math.cos(latitude) * Math.cos(longitude), Math.cos(latitude) * Math.sin(longitude), Math.sin(latitude)];
+    });
+    const [a, b, c] = [0, 1, 2].map((k) => between(sphere.map((point) => point[k])));
+    return { x, y, longitude: Math.atan2(b, a) / turn, latitude: Math.atan2(c, Math.hypot(a, b)) / turn };
+  }
+
+  // digits that tell a hundredth of a pixel
+  const groundDigits = (() => {
+    if (!ground) return 0;
+    const a = placeOnGround(0, 0), b = placeOnGround(0, cols > 1 ? 1 : 0), c = placeOnGround(rows > 1 ? 1 : 0, 0);
+    const pixel = Math.max(Math.hypot(b.x - a.x, b.y - a.y), Math.hypot(c.x - a.x, c.y - a.y)) || 1;
+    return Math.min(12, Math.max(0, 2 - Math.floor(Math.log10(pixel))));
+  })();
+
   // ---- state
 
   const state = {
@@ -197,6 +232,15 @@ const Quicklook = (() => {
     const at = values(state.row, state.col);
     line("Row", at.row);
     line("Column", at.col);
+    if (scene.crop) line("In the file", `${at.row + scene.crop[0]}, ${at.col + scene.crop[1]}`);
+    if (ground) {
+      const digits = (value, count) => value === null ? "–" : value.toFixed(count);
+      const place = placeOnGround(at.row, at.col);
+      line("X", digits(place.x, groundDigits));
+      line("Y", digits(place.y, groundDigits));
+      line("Longitude", digits(place.longitude, 6));
+      line("Latitude", digits(place.latitude, 6));
+    }
     for (let band = 1; band <= bands; band++) {
       line(`Decibel ${band}`, at[`mark${band}`] === 0 ? `invalid (${at[`db${band}`]})` : at[`db${band}`] === null ? null : String(at[`db${band}`]));
       line(`Grey ${band}`, at[`grey${band}`]);
@@ -280,6 +324,17 @@ const Quicklook = (() => {
     });
   }
 
+  function showOrigin() {
+    const list = $("origin");
+    if (ground) scene.origin.push(["Reference system of x and y", ground.crs || "not named in the file"]);
+    if (ground && ground.off > 0.01) scene.origin.push(["Longitude and latitude", `within ${ground.off.toPrecision(2)} pixels`]);
+    for (const [name, words] of scene.origin) {
+      const dt = document.createElement("dt"), dd = document.createElement("dd");
+      dt.textContent = name.replace(/^quicklook_/, ""); dd.textContent = words;
+      list.append(dt, dd);
+    }
+  }
+
   function showHistograms() {
     const place = $("histograms");
     place.textContent = "";
@@ -354,7 +409,7 @@ const Quicklook = (() => {
       link.href = URL.createObjectURL(blob);
       link.download = `${scene.title.replace(/[^\w-]+/g, "-")}-${state.view}.png`;
       link.click();
-      setTimeout(() => URL.revokeObjectURL(link.href), 1000);
+      setTimeout(() => URL.revokeObjectURL(link.href), 60000);
     });
   }
 
@@ -485,6 +540,7 @@ const Quicklook = (() => {
   fit();
   showReadout();
   showStatistics();
+  showOrigin();
   theme(window.matchMedia("(prefers-color-scheme: dark)").matches);
   $("about").textContent = scene.about;
   const first = state.view;
@@ -506,7 +562,7 @@ const Quicklook = (() => {
       document.documentElement.dataset.complete = Math.round(performance.now());
       if (state.row >= 0) showReadout();
     },
-    values, figures, state, moveTo, setView, setGamma,
+    values, figures, placeOnGround, state, moveTo, setView, setGamma,
     decibels: async (band, row) => { decibelBlock(band, Math.floor(row / scene.blockRows)); await blocks[`db${band}-${Math.floor(row / scene.blockRows)}`]; },
     isComplete: () => complete,
   };

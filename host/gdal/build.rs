@@ -1,0 +1,4 @@
+// Links the installed libgdal (Debian's libgdal-dev).
+fn main() {
+    println!("cargo:rustc-link-lib=dylib=gdal");
+}
