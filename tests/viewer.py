@@ -1,4 +1,6 @@
 """The deck viewer's page in a real browser: values read back, views, gamma, patches, keyboard. Usage: viewer.py PATH-OF-QUICKLOOK [FOLDER-FOR-SCREENSHOTS]"""
+import base64
+import io
 import os
 import pathlib
 import subprocess
@@ -8,6 +10,8 @@ import time
 import unittest
 
 import numpy
+from PIL import Image
+from osgeo import gdal, osr
 from selenium import webdriver
 from selenium.webdriver.chrome.options import Options
 from selenium.webdriver.chrome.service import Service
@@ -63,6 +67,22 @@ def tearDownModule():
     HOLDER.cleanup()
 
 
+def geotiff(name, place):
+    """Both bands as a GeoTIFF with nodata, put on the ground by `place`."""
+    made = gdal.GetDriverByName("GTiff").Create(f"{FOLDER}/{name}", COLS, ROWS, 2, gdal.GDT_Float64, ["TILED=YES", "COMPRESS=DEFLATE"])
+    place(made)
+    for band in (1, 2):
+        made.GetRasterBand(band).WriteArray(numpy.where(MARKS[band - 1] == 1, DB[band - 1], -9999.0))
+        made.GetRasterBand(band).SetNoDataValue(-9999.0)
+
+
+def reference(code):
+    made = osr.SpatialReference()
+    made.ImportFromEPSG(code)
+    made.SetAxisMappingStrategy(osr.OAMS_TRADITIONAL_GIS_ORDER)
+    return made
+
+
 class Page(unittest.TestCase):
     def open(self, name="page.html", width=1366, height=768):
         self.driver = browser(width, height)
@@ -70,7 +90,7 @@ class Page(unittest.TestCase):
         self.driver.get(f"file://{FOLDER}/{name}")
         self.wait("document.documentElement.dataset.complete")
 
-    def wait(self, test, seconds=20):
+    def wait(self, test, seconds=60):
         end = time.monotonic() + seconds
         while time.monotonic() < end:
             if self.driver.execute_script(f"return Boolean({test})"):
@@ -201,11 +221,114 @@ class Page(unittest.TestCase):
         self.press("t")
         self.assertNotEqual(self.driver.execute_script("return document.documentElement.classList.contains('night')"), night)
         self.press("s")
-        end = time.monotonic() + 10
-        while time.monotonic() < end and not list(pathlib.Path(FOLDER).glob("*.png")):
+        shown = base64.b64decode(picture().partition(",")[2])
+        pixels = [numpy.asarray(Image.open(io.BytesIO(bytes_)).convert("RGBA")) for bytes_ in (self.saved("Site-7-more-rgb.png"), shown)]
+        numpy.testing.assert_array_equal(*pixels)
+
+    def saved(self, name, seconds=60):
+        """The bytes of a download, once it is whole: the browser first puts an empty file in its place."""
+        end = time.monotonic() + seconds
+        while time.monotonic() < end:
+            found = pathlib.Path(FOLDER, name)
+            if found.exists() and found.stat().st_size and not list(pathlib.Path(FOLDER).glob("*.crdownload")):
+                return found.read_bytes()
             time.sleep(0.1)
-        saved = list(pathlib.Path(FOLDER).glob("*.png"))
-        self.assertTrue(saved and saved[0].read_bytes().startswith(b"\x89PNG"))
+        self.fail(f"{name} was never saved: {sorted(os.listdir(FOLDER))}")
+
+    def assert_places(self, name, words, code, to_ground, places):
+        """X, Y, longitude and latitude under the pointer, against GDAL's own transformation of the pixel's middle, to a hundredth of a pixel."""
+        run("view", name, "--marks", "auto", *words, "--out", "ground.html")
+        self.open("ground.html")
+        to_lonlat = osr.CoordinateTransformation(reference(code), reference(4326))
+
+        def sphere(longitude, latitude):
+            longitude, latitude = numpy.radians([longitude, latitude])
+            return numpy.array([numpy.cos(latitude) * numpy.cos(longitude), numpy.cos(latitude) * numpy.sin(longitude), numpy.sin(latitude)])
+
+        for row, col in places:
+            self.driver.execute_script("Quicklook.moveTo(arguments[0], arguments[1])", row, col)
+            found = {key: float(value) for key, value in self.readout().items() if key in ("X", "Y", "Longitude", "Latitude")}
+            exact = self.driver.execute_script("return Quicklook.placeOnGround(arguments[0], arguments[1])", row, col)
+            here, next_ = (numpy.array(to_ground(col + at, row + at)) for at in (0.5, 1.5))
+            pixel = numpy.hypot(*(next_ - here))
+            self.assertLess(numpy.hypot(*(here - [exact["x"], exact["y"]])), 0.01 * pixel, (row, col))
+            self.assertLess(numpy.hypot(found["X"] - exact["x"], found["Y"] - exact["y"]), 0.01 * pixel, (row, col))
+            here, next_ = (sphere(*to_lonlat.TransformPoint(*place)[:2]) for place in (here, next_))
+            pixel = numpy.linalg.norm(next_ - here)
+            self.assertLess(numpy.linalg.norm(here - sphere(exact["longitude"], exact["latitude"])), 0.01 * pixel, (row, col))
+            self.assertLess(numpy.linalg.norm(here - sphere(found["Longitude"], found["Latitude"])), 0.01 * pixel + 2e-8, (row, col))
+        return self.readout()
+
+    def test_coordinates(self):
+        six = (500000.5, 10.0, 0.25, 6000000.25, 0.5, -12.5)
+
+        def utm(made):
+            made.SetGeoTransform(six)
+            made.SetSpatialRef(reference(32632))
+
+        def ground(col, row):
+            return six[0] + col * six[1] + row * six[2], six[3] + col * six[4] + row * six[5]
+
+        geotiff("utm.tif", utm)
+        places = ((0, 0), (0, COLS - 1), (ROWS - 1, 0), (ROWS - 1, COLS - 1), (50, 64), (33, 7))
+        self.assert_places("utm.tif", [], 32632, ground, places)
+        self.assertIn("EPSG:32632", self.text("origin"))
+        cropped = self.assert_places("utm.tif", ["--crop", "20,30,40,50"], 32632, lambda col, row: ground(col + 30, row + 20), ((0, 0), (39, 49), (11, 22)))
+        self.assertEqual(cropped["In the file"], "31, 52")
+
+    def test_coordinates_at_the_pole_and_the_date_line(self):
+        """Between two nodes of the page's grid there is neither a pole nor a date line."""
+        for name, code, six in (("pole.tif", 3413, (-2560.0, 40.0, 0.0, 1920.0, 0.0, -40.0)), ("line.tif", 32660, (812000.0, 500.0, 0.0, 7000000.0, 0.0, -500.0)),
+                                ("far.tif", 4326, (179.98, 0.0005, 0.0, 60.0, 0.0, -0.0005))):
+            def place(made, six=six, code=code):
+                made.SetGeoTransform(six)
+                made.SetSpatialRef(reference(code))
+
+            geotiff(name, place)
+            self.assert_places(name, [], code, lambda col, row, six=six: (six[0] + col * six[1], six[3] + row * six[5]),
+                               [(row, col) for row in (0, 40, 47, 48, 49, 95) for col in (0, 39, 40, 63, 64, 65, 100, 127)])
+
+    def test_control_points_over_the_date_line(self):
+        def turned(col, row):
+            longitude = 179.95 + 0.001 * col + 0.0002 * row
+            return longitude - 360.0 if longitude > 180 else longitude, 60.0 - 0.0005 * row
+
+        def points(made):
+            list_ = [gdal.GCP(*turned(col, row), 0.0, col, row) for row in range(0, ROWS + 1, 16) for col in range(0, COLS + 1, 16)]
+            made.SetGCPs(list_, reference(4326))
+
+        geotiff("turned.tif", points)
+        run("view", "turned.tif", "--marks", "auto", "--out", "ground.html")
+        self.open("ground.html")
+        for row, col in ((0, 0), (50, 40), (50, 41), (95, 127)):
+            found = self.driver.execute_script("return Quicklook.placeOnGround(arguments[0], arguments[1])", row, col)
+            longitude, latitude = turned(col + 0.5, row + 0.5)
+            self.assertLess(abs((found["longitude"] - longitude + 180) % 360 - 180), 1e-5, (row, col))
+            self.assertLess(abs(found["latitude"] - latitude), 1e-5, (row, col))
+
+    def test_coordinates_by_control_points(self):
+        def bent(col, row):
+            return 8.0 + 0.001 * col + 0.0002 * row + 1e-7 * col * row, 55.0 - 0.0006 * row + 0.0001 * col - 2e-7 * row * row
+
+        def points(made):
+            list_ = [gdal.GCP(*bent(col, row), 0.0, col, row) for row in range(0, ROWS + 1, 16) for col in range(0, COLS + 1, 16)]
+            made.SetGCPs(list_, reference(4326))
+
+        geotiff("gcps.tif", points)
+        opened = gdal.Open(f"{FOLDER}/gcps.tif")
+        spline = gdal.Transformer(opened, None, ["METHOD=GCP_TPS"])
+
+        def ground(col, row):
+            done, place = spline.TransformPoint(False, col, row)
+            self.assertTrue(done)
+            return place[0], place[1]
+
+        self.assert_places("gcps.tif", [], 4326, ground, ((0, 0), (95, 127), (50, 64), (3, 99)))
+
+    def test_no_coordinates(self):
+        self.open()
+        self.point_at(5, 5)
+        self.assertNotIn("Longitude", self.readout())
 
     def test_one_band(self):
         self.open("one.html")
