@@ -407,7 +407,8 @@ const Quicklook = (() => {
     screen.toBlob((blob) => {
       const link = document.createElement("a");
       link.href = URL.createObjectURL(blob);
-      link.download = `${scene.title.replace(/[^\w-]+/g, "-")}-${state.view}.png`;
+      const name = scene.title.replace(/[^\w-]+/g, "-").replace(/^-+|-+$/g, "") || "quicklook";
+      link.download = `${name}-${state.view}.png`;
       link.click();
       setTimeout(() => URL.revokeObjectURL(link.href), 60000);
     });
