@@ -226,7 +226,7 @@ class Page(unittest.TestCase):
         numpy.testing.assert_array_equal(*pixels)
 
     def saved(self, name, seconds=60):
-        """The bytes of a download, once it is whole: the browser first puts an empty file in its place."""
+        """The bytes of a download, once it is whole."""
         end = time.monotonic() + seconds
         while time.monotonic() < end:
             found = pathlib.Path(FOLDER, name)
