@@ -1,8 +1,11 @@
 /* quicklook.h: the radar quicklook engine's calls for C.
  *
  * Every call answers a number of the table below and does nothing else with a refused input: after any answer but 0 all lent memory
- * is as it was. A list is a pointer and its number of elements. A caller has two duties: the lists of one call do not overlap, and each
- * pointer has its type's natural alignment (an empty list too has a pointer that is not null).
+ * is as it was. A list is a pointer and its number of elements. A caller has three duties: the lists of one call do not overlap; each
+ * pointer has its type's natural alignment (an empty list too has a pointer that is not null); and the calling thread has the
+ * floating-point environment that a program starts with, fesetenv(FE_DFL_ENV) of fenv.h: to the nearest, no flushing of subnormal numbers
+ * to zero (what -ffast-math switches on in some programs), no traps. Another rounding changes greys, flushing changes statistics, and a trap
+ * may end the program, even by a NaN under a 0 mark.
  *
  *   0    done: the outputs are fully written
  *   1    rows or cols above 4,096

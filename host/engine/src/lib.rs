@@ -1,6 +1,7 @@
 //! The engine's calls for Rust: each function lends slices to the proved archive and hands its answer back.
-//! Rust's own rules keep the two duties of a caller (no overlap, alignment).
+//! Rust's own rules keep two duties of a caller (no overlap, alignment); the third, the floating-point environment, is kept here.
 
+use std::ffi::c_void;
 use std::fmt;
 
 /// A number of the table of replies.
@@ -151,20 +152,36 @@ mod c {
     }
 }
 
-fn answer(number: u8) -> Answer<()> {
-    if number == 0 { Ok(()) } else { Err(Refusal(number)) }
+/// A call in the floating-point environment that it is proved for.
+fn call(call: impl FnOnce() -> u8) -> Answer<()> {
+    set_environment();
+    match call() {
+        0 => Ok(()),
+        number => Err(Refusal(number)),
+    }
+}
+
+/// Gives this thread the floating-point environment that the engine is proved for: to the nearest, no flushing of small numbers to zero,
+/// no traps.
+pub fn set_environment() {
+    extern "C" {
+        fn fesetenv(environment: *const c_void) -> i32;
+    }
+    // FE_DFL_ENV of fenv.h.
+    const DEFAULT: *const c_void = usize::MAX as *const c_void;
+    unsafe { fesetenv(DEFAULT) };
 }
 
 // Each `unsafe` below hands over a pointer and the length of the slice it comes from; the archive writes only behind `*mut`.
 
 pub fn marks(processed: &[f32], valid_mask: &mut [u8]) -> Answer<()> {
-    answer(unsafe { c::quicklook_marks(processed.as_ptr(), processed.len(), valid_mask.as_mut_ptr(), valid_mask.len()) })
+    call(|| unsafe { c::quicklook_marks(processed.as_ptr(), processed.len(), valid_mask.as_mut_ptr(), valid_mask.len()) })
 }
 
 pub fn statistics(rows: usize, cols: usize, band: Band) -> Answer<Statistics> {
     let mut valid_count = 0u64;
     let mut floats = [0f64; 15];
-    answer(unsafe {
+    call(|| unsafe {
         c::quicklook_statistics(
             rows, cols, band.db.as_ptr(), band.db.len(), band.valid_mask.as_ptr(), band.valid_mask.len(), &mut valid_count, &mut floats,
         )
@@ -175,7 +192,7 @@ pub fn statistics(rows: usize, cols: usize, band: Band) -> Answer<Statistics> {
 pub fn window(strategy: AutoscaleStrategy, rows: usize, cols: usize, band: Band) -> Answer<Window> {
     let mut blank = 0u8;
     let mut floats = [0f64; 4];
-    answer(unsafe {
+    call(|| unsafe {
         c::quicklook_window(
             strategy as u8, rows, cols, band.db.as_ptr(), band.db.len(), band.valid_mask.as_ptr(), band.valid_mask.len(), &mut blank,
             &mut floats,
@@ -188,7 +205,7 @@ pub fn window(strategy: AutoscaleStrategy, rows: usize, cols: usize, band: Band)
 pub fn grey_u8(
     strategy: AutoscaleStrategy, rows: usize, cols: usize, band: Band, out: &mut [u8], work: &mut [f64],
 ) -> Answer<()> {
-    answer(unsafe {
+    call(|| unsafe {
         c::quicklook_grey_u8(
             strategy as u8, rows, cols, band.db.as_ptr(), band.db.len(), band.valid_mask.as_ptr(), band.valid_mask.len(),
             out.as_mut_ptr(), out.len(), work.as_mut_ptr(), work.len(),
@@ -199,7 +216,7 @@ pub fn grey_u8(
 pub fn grey_u16(
     strategy: AutoscaleStrategy, rows: usize, cols: usize, band: Band, out: &mut [u16], work: &mut [f64],
 ) -> Answer<()> {
-    answer(unsafe {
+    call(|| unsafe {
         c::quicklook_grey_u16(
             strategy as u8, rows, cols, band.db.as_ptr(), band.db.len(), band.valid_mask.as_ptr(), band.valid_mask.len(),
             out.as_mut_ptr(), out.len(), work.as_mut_ptr(), work.len(),
@@ -218,7 +235,7 @@ pub fn picture(
     strategy: AutoscaleStrategy, mode: SyntheticRgbMode, rows: usize, cols: usize, band1: Band, band2: Band, out: PictureOut,
     work: &mut [f64],
 ) -> Answer<()> {
-    answer(unsafe {
+    call(|| unsafe {
         c::quicklook_picture(
             strategy as u8, mode as u8, rows, cols, band1.db.as_ptr(), band1.db.len(), band1.valid_mask.as_ptr(),
             band1.valid_mask.len(), band2.db.as_ptr(), band2.db.len(), band2.valid_mask.as_ptr(), band2.valid_mask.len(),
@@ -229,11 +246,11 @@ pub fn picture(
 }
 
 pub fn stretch(data: &[u16], out: &mut [u8]) -> Answer<()> {
-    answer(unsafe { c::quicklook_stretch(data.as_ptr(), data.len(), out.as_mut_ptr(), out.len()) })
+    call(|| unsafe { c::quicklook_stretch(data.as_ptr(), data.len(), out.as_mut_ptr(), out.len()) })
 }
 
 pub fn compose(mode: SyntheticRgbMode, strategy: AutoscaleStrategy, band1: &[u8], band2: &[u8], rgb: &mut [u8]) -> Answer<()> {
-    answer(unsafe {
+    call(|| unsafe {
         c::quicklook_compose(
             mode as u8, strategy as u8, band1.as_ptr(), band1.len(), band2.as_ptr(), band2.len(), rgb.as_mut_ptr(), rgb.len(),
         )
@@ -241,30 +258,30 @@ pub fn compose(mode: SyntheticRgbMode, strategy: AutoscaleStrategy, band1: &[u8]
 }
 
 pub fn pad_u8(rows: usize, cols: usize, data: &[u8], padded: &mut [u8]) -> Answer<()> {
-    answer(unsafe { c::quicklook_pad_u8(rows, cols, data.as_ptr(), data.len(), padded.as_mut_ptr(), padded.len()) })
+    call(|| unsafe { c::quicklook_pad_u8(rows, cols, data.as_ptr(), data.len(), padded.as_mut_ptr(), padded.len()) })
 }
 
 pub fn pad_u16(rows: usize, cols: usize, data: &[u16], padded: &mut [u16]) -> Answer<()> {
-    answer(unsafe { c::quicklook_pad_u16(rows, cols, data.as_ptr(), data.len(), padded.as_mut_ptr(), padded.len()) })
+    call(|| unsafe { c::quicklook_pad_u16(rows, cols, data.as_ptr(), data.len(), padded.as_mut_ptr(), padded.len()) })
 }
 
 pub fn operate(operation: PolarizationOperation, a: &[f32], b: &[f32], out: &mut [f32]) -> Answer<()> {
-    let call = match operation {
+    let operate = match operation {
         PolarizationOperation::Sum => c::quicklook_sum,
         PolarizationOperation::Diff => c::quicklook_difference,
         PolarizationOperation::Ratio => c::quicklook_ratio,
         PolarizationOperation::NDiff => c::quicklook_normalized_diff,
         PolarizationOperation::LogRatio => c::quicklook_log_ratio,
     };
-    answer(unsafe { call(a.as_ptr(), a.len(), b.as_ptr(), b.len(), out.as_mut_ptr(), out.len()) })
+    call(|| unsafe { operate(a.as_ptr(), a.len(), b.as_ptr(), b.len(), out.as_mut_ptr(), out.len()) })
 }
 
 /// The raw calls that take codes, for tests of codes that name nothing.
 pub mod codes {
-    use super::{answer, c, Answer, Band, PictureOut};
+    use super::{c, call, Answer, Band, PictureOut};
 
     pub fn window(strategy: u8, rows: usize, cols: usize, band: Band, blank: &mut u8, floats: &mut [f64; 4]) -> Answer<()> {
-        answer(unsafe {
+        call(|| unsafe {
             c::quicklook_window(
                 strategy, rows, cols, band.db.as_ptr(), band.db.len(), band.valid_mask.as_ptr(), band.valid_mask.len(), blank, floats,
             )
@@ -272,7 +289,7 @@ pub mod codes {
     }
 
     pub fn statistics(rows: usize, cols: usize, band: Band, valid_count: &mut u64, floats: &mut [f64; 15]) -> Answer<()> {
-        answer(unsafe {
+        call(|| unsafe {
             c::quicklook_statistics(
                 rows, cols, band.db.as_ptr(), band.db.len(), band.valid_mask.as_ptr(), band.valid_mask.len(), valid_count, floats,
             )
@@ -282,7 +299,7 @@ pub mod codes {
     pub fn grey_u8(
         strategy: u8, rows: usize, cols: usize, band: Band, out: &mut [u8], work: &mut [f64],
     ) -> Answer<()> {
-        answer(unsafe {
+        call(|| unsafe {
             c::quicklook_grey_u8(
                 strategy, rows, cols, band.db.as_ptr(), band.db.len(), band.valid_mask.as_ptr(), band.valid_mask.len(),
                 out.as_mut_ptr(), out.len(), work.as_mut_ptr(), work.len(),
@@ -293,7 +310,7 @@ pub mod codes {
     pub fn grey_u16(
         strategy: u8, rows: usize, cols: usize, band: Band, out: &mut [u16], work: &mut [f64],
     ) -> Answer<()> {
-        answer(unsafe {
+        call(|| unsafe {
             c::quicklook_grey_u16(
                 strategy, rows, cols, band.db.as_ptr(), band.db.len(), band.valid_mask.as_ptr(), band.valid_mask.len(),
                 out.as_mut_ptr(), out.len(), work.as_mut_ptr(), work.len(),
@@ -302,7 +319,7 @@ pub mod codes {
     }
 
     pub fn compose(mode: u8, strategy: u8, band1: &[u8], band2: &[u8], rgb: &mut [u8]) -> Answer<()> {
-        answer(unsafe {
+        call(|| unsafe {
             c::quicklook_compose(
                 mode, strategy, band1.as_ptr(), band1.len(), band2.as_ptr(), band2.len(), rgb.as_mut_ptr(), rgb.len(),
             )
@@ -312,7 +329,7 @@ pub mod codes {
     pub fn picture(
         strategy: u8, mode: u8, rows: usize, cols: usize, band1: Band, band2: Band, out: PictureOut, work: &mut [f64],
     ) -> Answer<()> {
-        answer(unsafe {
+        call(|| unsafe {
             c::quicklook_picture(
                 strategy, mode, rows, cols, band1.db.as_ptr(), band1.db.len(), band1.valid_mask.as_ptr(), band1.valid_mask.len(),
                 band2.db.as_ptr(), band2.db.len(), band2.valid_mask.as_ptr(), band2.valid_mask.len(), out.grey1.as_mut_ptr(),

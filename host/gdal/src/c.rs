@@ -29,6 +29,8 @@ extern "C" {
     pub fn VSIFTellL(file: Handle) -> u64;
     pub fn VSIFReadL(buffer: *mut c_void, size: usize, count: usize, file: Handle) -> usize;
     pub fn VSIFCloseL(file: Handle) -> c_int;
+    pub fn VSIReadDir(folder: *const c_char) -> *mut *mut c_char;
+    pub fn VSIGetMemFileBuffer(name: *const c_char, len: *mut u64, seize: c_int) -> *const u8;
 
     pub fn GDALAllRegister();
     pub fn GDALSetCacheMax64(bytes: i64);

@@ -7,6 +7,7 @@ use std::ffi::{CStr, CString};
 use std::marker::PhantomData;
 use std::os::raw::{c_char, c_int, c_void};
 use std::ptr::{null, null_mut};
+use std::sync::atomic::{AtomicBool, Ordering::SeqCst};
 use std::sync::Mutex;
 use wire::{Crs as CrsWords, Gcp, Part};
 
@@ -49,13 +50,36 @@ pub fn start(cache_bytes: i64) {
 
 /// Ends the process by a signal unless it is called again, with 0 or more seconds, before these are over.
 pub fn end_after(seconds: u32) {
-    unsafe { libc::alarm(seconds) };
+    unsafe {
+        libc::signal(libc::SIGALRM, libc::SIG_DFL);
+        libc::alarm(seconds);
+    }
 }
 
-/// No more address space and processor time than these, so that a hostile file ends the reader and nothing else.
-pub fn limit(address_bytes: u64, seconds: u64) {
-    for (resource, most) in [(libc::RLIMIT_AS, address_bytes), (libc::RLIMIT_CPU, seconds), (libc::RLIMIT_CORE, 0)] {
-        let bounds = libc::rlimit { rlim_cur: most, rlim_max: most };
+/// Ends this process when the one that started it ends, however that ends.
+pub fn end_with_parent() {
+    unsafe { libc::prctl(libc::PR_SET_PDEATHSIG, libc::SIGKILL) };
+}
+
+/// Whether there is less memory than this process is meant to have.
+static IS_NARROW: AtomicBool = AtomicBool::new(false);
+
+/// The threads that a driver may write with. Where one of them finds no memory GDAL waits for it for ever, so none where memory is short.
+pub fn threads() -> &'static str {
+    if IS_NARROW.load(SeqCst) { "NUM_THREADS=1" } else { "NUM_THREADS=2" }
+}
+
+/// No more address space, memory and processor time than these, or than whoever started the program allows, so that a hostile file ends
+/// the reader and nothing else.
+pub fn limit(address_bytes: u64, memory_bytes: u64, seconds: u64) {
+    for (resource, most) in [(libc::RLIMIT_AS, address_bytes), (libc::RLIMIT_DATA, memory_bytes), (libc::RLIMIT_CPU, seconds), (libc::RLIMIT_CORE, 0)] {
+        let mut bounds = libc::rlimit { rlim_cur: most, rlim_max: most };
+        unsafe { libc::getrlimit(resource, &mut bounds) };
+        if [libc::RLIMIT_AS, libc::RLIMIT_DATA].contains(&resource) && bounds.rlim_cur < most {
+            IS_NARROW.store(true, SeqCst);
+        }
+        let most = most.min(bounds.rlim_cur);
+        bounds = libc::rlimit { rlim_cur: most, rlim_max: most };
         unsafe { libc::setrlimit(resource, &bounds) };
     }
 }
@@ -466,4 +490,20 @@ impl RawFile {
             c::VSIFReadL(bytes.as_mut_ptr().cast(), 1, bytes.len(), self.0)
         }
     }
+}
+
+/// The names in a folder of GDAL's files in memory.
+pub fn names_in(folder: &str) -> Vec<String> {
+    let list = unsafe { c::VSIReadDir(text(folder).as_ptr()) };
+    let mut names = strings(list);
+    unsafe { c::CSLDestroy(list) };
+    names.sort();
+    names
+}
+
+/// The bytes of a file in memory, which nobody writes any more.
+pub fn file_in_memory(name: &str) -> Option<&'static [u8]> {
+    let mut len = 0;
+    let bytes = unsafe { c::VSIGetMemFileBuffer(text(name).as_ptr(), &mut len, 0) };
+    if bytes.is_null() { None } else { Some(unsafe { std::slice::from_raw_parts(bytes, len as usize) }) }
 }

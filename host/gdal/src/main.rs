@@ -13,8 +13,10 @@ mod write;
 use std::io::{self, BufReader, BufWriter, Write};
 use wire::Fields;
 
-/// Address space and processor time of the process: room for the largest scene in the widest type several times over.
-const MOST_MEMORY: u64 = 3 << 30;
+/// Address space (libraries take their part of it), memory and processor time of the process: room for the largest scene in the widest
+/// type several times over.
+const MOST_ADDRESSES: u64 = 3 << 30;
+const MOST_MEMORY: u64 = 1 << 30;
 const MOST_SECONDS: u64 = 120;
 /// Seconds of one request, waiting included: a file may be a pipe in disguise.
 const LONGEST_REQUEST: u32 = 120;
@@ -26,7 +28,8 @@ fn main() {
         println!("quicklook-gdal {} over {}: a part of quicklook, not run by itself", env!("CARGO_PKG_VERSION"), dataset::version());
         return;
     }
-    dataset::limit(MOST_MEMORY, MOST_SECONDS);
+    dataset::end_with_parent();
+    dataset::limit(MOST_ADDRESSES, MOST_MEMORY, MOST_SECONDS);
     dataset::start(CACHE);
     let mut input = BufReader::with_capacity(1 << 16, io::stdin().lock());
     let mut out = BufWriter::with_capacity(1 << 16, io::stdout().lock());
@@ -61,11 +64,14 @@ fn serve(input: &mut impl io::Read, out: &mut impl Write) -> io::Result<()> {
                     Err(why) => answer(out, Err(why))?,
                 }
             }
-            "write" => {
-                let done = write::raster(&fields, input)?;
-                answer(out, done.map(|()| Fields::default()))?;
-            }
-            "sidecar" => answer(out, write::sidecar(&fields).map(|()| Fields::default()))?,
+            "write" => match write::raster(&fields, input)? {
+                Ok(()) => write::send_raster(out)?,
+                Err(why) => answer(out, Err(why))?,
+            },
+            "sidecar" => match write::sidecar(&fields) {
+                Ok(()) => write::send_sidecar(out)?,
+                Err(why) => answer(out, Err(why))?,
+            },
             "places" => answer(out, places::grid(&fields))?,
             _ => answer(out, Err(format!("a request that nobody knows: {verb}")))?,
         }

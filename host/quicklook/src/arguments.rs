@@ -1,5 +1,6 @@
 //! The command line.
 
+use crate::trouble::STATUSES;
 use clap::{Args, Parser, Subcommand, ValueEnum};
 use std::ffi::OsString;
 use std::path::PathBuf;
@@ -8,23 +9,29 @@ use wire::Part;
 /// The program's version with the commit that it was built from.
 pub const VERSION: &str = concat!(env!("CARGO_PKG_VERSION"), " (", env!("QUICKLOOK_COMMIT"), ")");
 
-const AFTER: &str = "\
+const RASTERS: &str = "\
 Rasters are NumPy .npy files of two dimensions and whatever GDAL opens: GeoTIFF and COG, ENVI, NetCDF, HFA, PNG and more. A raster of
 several bands is named with its band, scene.tif:2; one of two bands serves both bands of a picture. Elements are floats or whole
 numbers, taken exactly. Marks are 1 where a pixel is valid and 0 where not. Pictures go to .png, .tif or .npy, by the name's ending; a
-.tif is a GeoTIFF with the marks as its mask and the georeference of the first raster.
+.tif is a GeoTIFF with the marks as its mask and the georeference of the first raster. A raster named - is a .npy on standard input.
 
-Exit status: 0 done; 1 to 6 the number of a refusal, printed with its meaning, place and remedy; 64 wrong use; 74 a file that cannot be
-read or written. After anything but 0 no output is written, and an earlier file of that name stays as it was.
+The outputs of a command are written all or none: after any status but 0 every earlier file stands as it was.
+";
 
+const EXAMPLES: &str = "
 A first run:       quicklook demo scene
 A picture:         quicklook picture scene/vv.npy scene/vv-marks.npy scene/vh.npy scene/vh-marks.npy --out sea.png --strategy tamed
 From a GeoTIFF:    quicklook picture scene.tif --marks auto --out sea.tif --strategy tamed
 A part of it:      quicklook grey scene.tif:1 --marks auto --crop 2000,3000,1024,1024 --out patch.tif";
 
+fn after_help() -> String {
+    let statuses: String = STATUSES.iter().map(|(number, meaning)| format!("  {number:<8}{meaning}\n")).collect();
+    format!("{RASTERS}\nExit status:\n{statuses}{EXAMPLES}")
+}
+
 /// Radar quicklooks from decibel rasters: validity marks, statistics, windows, greys and colour pictures, each as the proved engine computes it.
 #[derive(Parser)]
-#[command(name = "quicklook", version = VERSION, after_help = AFTER)]
+#[command(name = "quicklook", version = VERSION, after_help = after_help())]
 pub struct Arguments {
     #[command(subcommand)]
     pub command: Command,
@@ -54,6 +61,9 @@ pub enum Command {
         /// Where the marks go
         #[arg(long)]
         marks_out: Option<PathBuf>,
+        /// Replaces read-only files too
+        #[arg(long)]
+        force: bool,
     },
     /// The statistics of one band: a count and fifteen numbers, a line each
     Stats {
@@ -169,6 +179,9 @@ pub enum Command {
         /// Where the page goes
         #[arg(long)]
         out: PathBuf,
+        /// Replaces a read-only file too
+        #[arg(long)]
+        force: bool,
     },
     /// Makes a synthetic sea scene of two bands, and runs every step on it
     Demo {
@@ -177,6 +190,9 @@ pub enum Command {
         /// Rows and columns of the scene
         #[arg(long, default_value_t = 512)]
         side: usize,
+        /// Takes a folder that holds files which the demo did not make, and replaces those of its names
+        #[arg(long)]
+        force: bool,
     },
 }
 
@@ -209,12 +225,15 @@ pub struct SceneFiles {
     pub reading: Reading,
 }
 
-/// The part of a raster that is read.
-#[derive(Args)]
+/// The part of a raster that is read, and how.
+#[derive(Args, Clone, Copy)]
 pub struct PartOf {
     /// Reads this part alone: its first row and column, from 0, and its rows and columns
     #[arg(long, value_name = "ROW,COL,ROWS,COLS", value_parser = crop)]
     pub crop: Option<Part>,
+    /// Maps .npy files into memory: less of it is needed, but a file that another program shortens meanwhile is told without its name
+    #[arg(long)]
+    pub map: bool,
 }
 
 /// How decibels and marks are read.
@@ -235,6 +254,9 @@ pub struct Reading {
     /// Takes the values as decibels though their unit or description says something else
     #[arg(long)]
     pub as_decibels: bool,
+    /// Maps .npy files into memory: less of it is needed, but a file that another program shortens meanwhile is told without its name
+    #[arg(long)]
+    pub map: bool,
 }
 
 /// What is written beside the elements.
@@ -246,6 +268,9 @@ pub struct Form {
     /// Writes a world file and an .aux.xml beside a .png
     #[arg(long)]
     pub world: bool,
+    /// Replaces read-only files too
+    #[arg(long)]
+    pub force: bool,
 }
 
 fn crop(text: &str) -> Result<Part, String> {

@@ -5,12 +5,16 @@ use crate::demo;
 use crate::elements::Kind;
 use crate::explain;
 use crate::json::Json;
-use crate::origin::{self, Items};
-use crate::output::{self, Parts, Picture, Sheet};
+use crate::memory::{self, Plain};
+use crate::origin::{self, Items, Origin};
+use crate::outputs;
+use crate::parts::Parts;
 use crate::progress::{note, step};
 use crate::said::Role;
-use crate::scene::{self, judge_limit, same_sides, tell_elsewhere, Origin, Scene, Wanted};
+use crate::scene::{self, judge_limit, same_sides, tell_elsewhere, Scene, Wanted};
+use crate::sheet::{self, Picture, Sheet};
 use crate::source::{List, Name, Source};
+use crate::threads;
 use crate::trouble::{Outcome, Trouble};
 use crate::view;
 use engine::{AutoscaleStrategy, PictureOut, PolarizationOperation, SyntheticRgbMode, Window};
@@ -22,7 +26,7 @@ use wire::{Georeference, Part};
 pub fn run(command: Command) -> Outcome<()> {
     match command {
         Command::Marks { intensities, part, out, form } => marks(&intensities, part, &out, form),
-        Command::Read { band, out, marks_out } => read(&band.files(), &band.reading, &out, marks_out.as_deref()),
+        Command::Read { band, out, marks_out, force } => read(&band.files(), &band.reading, [Some(&out), marks_out.as_ref()], force),
         Command::Stats { band, json } => stats(&band, json),
         Command::Window { band, strategy, json } => window(&band, strategy.into(), json),
         Command::Grey { band, strategy, depth, out, form } => grey(&band, strategy.into(), depth, &out, form),
@@ -33,8 +37,8 @@ pub fn run(command: Command) -> Outcome<()> {
         Command::Stretch { grey, part, out, form } => stretch(&grey, part, &out, form),
         Command::Pad { grey, part, out, form } => pad(&grey, part, &out, form),
         Command::Op { operation, a, b, part, out, form } => operate(operation.into(), [&a, &b], part, &out, form),
-        Command::View { scene, strategy, mode, title, out } => view::run(&scene, strategy.into(), mode.into(), title, &out),
-        Command::Demo { folder, side } => demo::run(&folder, side),
+        Command::View { scene, strategy, mode, title, out, force } => view::run(&scene, strategy.into(), mode.into(), title, (&out, force)),
+        Command::Demo { folder, side, force } => demo::run(&folder, side, force),
     }
 }
 
@@ -47,24 +51,25 @@ struct Single {
 }
 
 impl Single {
-    fn open(name: &OsStr, crop: Option<Part>, role: Role, judge_sides: fn(&Source, Part) -> Outcome<()>) -> Outcome<Single> {
-        let source = Source::open(&Name::new(name), 1)?;
+    fn open(name: &OsStr, of: PartOf, role: Role, judge_sides: fn(&Source, Part) -> Outcome<()>) -> Outcome<Single> {
+        let PartOf { crop, map } = of;
+        let source = Source::open(&Name::new(name, map), 1)?;
         let part = source.part(crop)?;
         judge_sides(&source, part)?;
         source.judge(role)?;
         source.notes.iter().for_each(|text| note(&format!("{}: GDAL says: {text}", source.shown)));
         let georeference = source.georeference.moved(part.row as f64, part.col as f64);
-        let origin = Origin { files: source.files.clone(), crop };
+        let origin = Origin { inputs: source.inputs.clone(), crop };
         Ok(Single { source, part, georeference, origin })
     }
 
     /// Two rasters of the same sides; the first one's georeference is the result's.
-    fn open_two(names: [&OsStr; 2], crop: Option<Part>, role: Role) -> Outcome<[Single; 2]> {
-        let (a, b) = rayon::join(|| Single::open(names[0], crop, role, judge_length), || Single::open(names[1], crop, role, judge_length));
+    fn open_two(names: [&OsStr; 2], of: PartOf, role: Role) -> Outcome<[Single; 2]> {
+        let (a, b) = threads::join(|| Single::open(names[0], of, role, judge_length), || Single::open(names[1], of, role, judge_length));
         let (mut a, mut b) = (a?, b?);
         same_sides((&a.source, a.part), (&b.source, b.part))?;
         tell_elsewhere(&a.source, &b.source);
-        a.origin.files.append(&mut b.origin.files);
+        a.origin.inputs.append(&mut b.origin.inputs);
         Ok([a, b])
     }
 
@@ -92,12 +97,18 @@ impl Single {
     }
 
     fn write(&self, command: &str, out: &Path, picture: Picture, marks: Option<&[u8]>, form: Form) -> Outcome<()> {
-        output::spare_inputs(&[out], &self.origin.files)?;
-        let origin = origin::items(command, &self.origin);
+        outputs::spare(&[out], self.origin.files())?;
+        let origin = origin::items(command, &self.origin)?;
         let Part { rows, cols, .. } = self.part;
         let sheet = Sheet { rows, cols, picture, marks, georeference: &self.georeference, origin: &origin, form };
-        step("writing", || Parts::write(out, &sheet)?.finish())
+        step("writing", || finish(sheet::write(out, &sheet)?, &self.origin))
     }
+}
+
+/// Names the outputs of inputs that are still as they were read.
+fn finish(parts: Parts, origin: &Origin) -> Outcome<()> {
+    origin.unchanged()?;
+    sheet::finish(parts)
 }
 
 /// Refusal 2 from the header alone: the calls without sides take a list of this length at most.
@@ -118,16 +129,16 @@ fn both(one: Option<Vec<u8>>, two: Option<Vec<u8>>) -> Option<Vec<u8>> {
     }
 }
 
-/// Room for n elements. A side above 4,096 is refused before, so no room is made for it.
-pub fn room<T: Clone + Default>(rows: usize, cols: usize, each: usize) -> Vec<T> {
-    if rows > engine::LONGEST_SIDE || cols > engine::LONGEST_SIDE { Vec::new() } else { vec![T::default(); rows * cols * each] }
+/// Room for a picture of `each` elements a pixel. A side above 4,096 is refused before, so no room is made for it.
+pub fn room<T: Plain>(rows: usize, cols: usize, each: usize) -> Outcome<Vec<T>> {
+    if rows > engine::LONGEST_SIDE || cols > engine::LONGEST_SIDE { Ok(Vec::new()) } else { memory::zeros(rows * cols * each, "a picture") }
 }
 
 fn marks(intensities: &OsStr, part: PartOf, out: &Path, form: Form) -> Outcome<()> {
-    output::check(out, false, form)?;
-    let single = Single::open(intensities, part.crop, Role::Intensities, judge_length)?;
+    sheet::plan(&[out], false, form)?;
+    let single = Single::open(intensities, part, Role::Intensities, judge_length)?;
     let list = step("reading", || single.f32s())?;
-    let mut marks = vec![0u8; list.elements().len()];
+    let mut marks = memory::zeros(list.elements().len(), "marks")?;
     step("marks", || engine::marks(list.elements(), &mut marks))?;
     if let Some(own) = single.own_marks()? {
         let more = marks.iter().zip(&own).filter(|(mark, own)| **mark > **own).count();
@@ -139,35 +150,38 @@ fn marks(intensities: &OsStr, part: PartOf, out: &Path, form: Form) -> Outcome<(
     single.write("marks", out, Picture::Marks(&marks), None, form)
 }
 
-fn read(files: &[OsString], reading: &Reading, out: &Path, marks_out: Option<&Path>) -> Outcome<()> {
-    const PLAIN: Form = Form { cog: false, world: false };
-    for path in std::iter::once(out).chain(marks_out) {
-        if path.extension() != Some(OsStr::new("npy")) {
-            return Err(Trouble::Usage(format!("{}: name an output that ends in .npy", path.display())));
-        }
+/// The outputs are the decibels and the marks.
+fn read(files: &[OsString], reading: &Reading, outs: [Option<&PathBuf>; 2], force: bool) -> Outcome<()> {
+    const NONE: &Georeference = &Georeference { transform: None, crs: None, gcps: Vec::new(), gcp_crs: None, area_or_point: None };
+    const NOTHING: &Items = &Vec::new();
+    let paths: Vec<&Path> = outs.into_iter().flatten().map(PathBuf::as_path).collect();
+    if let Some(path) = paths.iter().find(|path| path.extension() != Some(OsStr::new("npy"))) {
+        return Err(Trouble::Usage(format!("{}: name an output that ends in .npy", path.display())));
     }
-    let sheet = |rows: usize, cols: usize, picture| {
-        const NONE: &Georeference = &Georeference { transform: None, crs: None, gcps: Vec::new(), gcp_crs: None, area_or_point: None };
-        const NOTHING: &Items = &Vec::new();
-        Sheet { rows, cols, picture, marks: None, georeference: NONE, origin: NOTHING, form: PLAIN }
+    let form = Form { cog: false, world: false, force };
+    sheet::plan(&paths, true, form)?;
+    let write = |path: Option<&PathBuf>, rows: usize, cols: usize, picture: Picture| match path {
+        Some(path) => sheet::write(path, &Sheet { rows, cols, picture, marks: None, georeference: NONE, origin: NOTHING, form }),
+        None => Ok(Parts::default()),
     };
     if files.len() == 1 && reading.marks != Some(Marks::Auto) {
-        if marks_out.is_some() {
+        if outs[1].is_some() {
             return Err(Trouble::Usage("marks are needed for --marks-out: name a marks file, or give --marks auto".into()));
         }
-        let single = Single::open(&files[0], reading.crop, Role::Decibels { as_decibels: reading.as_decibels }, judge_limit)?;
+        let of = PartOf { crop: reading.crop, map: reading.map };
+        let single = Single::open(&files[0], of, Role::Decibels { as_decibels: reading.as_decibels }, judge_limit)?;
+        outputs::spare(&paths, single.origin.files())?;
         let (db, scaled) = step("reading", || scene::decibels(&single.source, single.part, reading.scaling))?;
         scaled.iter().for_each(|text| note(text));
-        output::spare_inputs(&[out], &single.origin.files)?;
-        return Parts::write(out, &sheet(single.part.rows, single.part.cols, Picture::F64(db.elements())))?.finish();
+        return finish(write(outs[0], single.part.rows, single.part.cols, Picture::F64(db.elements()))?, &single.origin);
     }
     let scene = step("reading", || Scene::read(files, Wanted::One, reading))?;
     explain::first_mark(&scene).map_or(Ok(()), Err)?;
-    output::spare_inputs(&std::iter::once(out).chain(marks_out).collect::<Vec<_>>(), &scene.origin.files)?;
+    outputs::spare(&paths, scene.origin.files())?;
     let lists = scene.bands[0].band();
-    let db = Parts::write(out, &sheet(scene.rows, scene.cols, Picture::F64(lists.db)));
-    let marks = marks_out.map(|path| Parts::write(path, &sheet(scene.rows, scene.cols, Picture::Marks(lists.valid_mask))));
-    Parts::join(std::iter::once(db).chain(marks))?.finish()
+    let db = write(outs[0], scene.rows, scene.cols, Picture::F64(lists.db));
+    let marks = write(outs[1], scene.rows, scene.cols, Picture::Marks(lists.valid_mask));
+    finish(Parts::join([db, marks])?, &scene.origin)
 }
 
 /// What the JSON of a band begins with.
@@ -189,6 +203,7 @@ fn stats(files: &BandFiles, as_json: bool) -> Outcome<()> {
     let scene = step("reading", || Scene::read(&files.files(), Wanted::One, &files.reading))?;
     let answer = step("statistics", || engine::statistics(scene.rows, scene.cols, scene.bands[0].band()));
     let statistics = answer.map_err(|refusal| explain::refused(refusal, &scene, AutoscaleStrategy::Default))?;
+    scene.origin.unchanged()?;
     if as_json {
         let mut json = json_head(&scene);
         json.number("valid", statistics.valid_count);
@@ -206,6 +221,7 @@ fn window(files: &BandFiles, strategy: AutoscaleStrategy, as_json: bool) -> Outc
     let scene = step("reading", || Scene::read(&files.files(), Wanted::One, &files.reading))?;
     let answer = step("window", || engine::window(strategy, scene.rows, scene.cols, scene.bands[0].band()));
     let window = answer.map_err(|refusal| explain::refused(refusal, &scene, strategy))?;
+    scene.origin.unchanged()?;
     if as_json {
         let mut json = json_head(&scene);
         json.text("strategy", &format!("{strategy:?}").to_lowercase());
@@ -224,123 +240,123 @@ fn window(files: &BandFiles, strategy: AutoscaleStrategy, as_json: bool) -> Outc
 }
 
 /// To standard output; a reader that closes it early is no trouble.
-fn print(text: &str) -> Outcome<()> {
-    match std::io::stdout().write_all(text.as_bytes()) {
+pub fn print(text: &str) -> Outcome<()> {
+    let mut out = std::io::stdout();
+    match out.write_all(text.as_bytes()).and_then(|()| out.flush()) {
         Err(e) if e.kind() != std::io::ErrorKind::BrokenPipe => Err(Trouble::File(format!("standard output: {e}"))),
         _ => Ok(()),
     }
 }
 
 fn grey(files: &BandFiles, strategy: AutoscaleStrategy, depth: Bits, out: &Path, form: Form) -> Outcome<()> {
-    output::check(out, false, form)?;
+    sheet::plan(&[out], false, form)?;
     let scene = step("reading", || Scene::read(&files.files(), Wanted::One, &files.reading))?;
-    output::spare_inputs(&[out], &scene.origin.files)?;
+    outputs::spare(&[out], scene.origin.files())?;
     let (rows, cols) = (scene.rows, scene.cols);
     let band = scene.bands[0].band();
     let mut work = vec![0f64; strategy.work_len()];
     let (mut narrow, mut wide) = (Vec::new(), Vec::new());
+    match depth {
+        Bits::Eight => narrow = room::<u8>(rows, cols, 1)?,
+        Bits::Sixteen => wide = room::<u16>(rows, cols, 1)?,
+    }
     let (painted, origin) = step("painting", || {
-        rayon::join(
+        threads::join(
             || match depth {
-                Bits::Eight => {
-                    narrow = room::<u8>(rows, cols, 1);
-                    engine::grey_u8(strategy, rows, cols, band, &mut narrow, &mut work)
-                }
-                Bits::Sixteen => {
-                    wide = room::<u16>(rows, cols, 1);
-                    engine::grey_u16(strategy, rows, cols, band, &mut wide, &mut work)
-                }
+                Bits::Eight => engine::grey_u8(strategy, rows, cols, band, &mut narrow, &mut work),
+                Bits::Sixteen => engine::grey_u16(strategy, rows, cols, band, &mut wide, &mut work),
             },
             || origin::painted("grey", &scene, strategy, None),
         )
     });
     painted.map_err(|refusal| explain::refused(refusal, &scene, strategy))?;
+    let origin = origin?;
     let picture = match depth {
         Bits::Eight => Picture::Grey8(&narrow),
         Bits::Sixteen => Picture::Grey16(&wide),
     };
     let sheet = Sheet { rows, cols, picture, marks: Some(band.valid_mask), georeference: &scene.georeference, origin: &origin, form };
-    step("writing", || Parts::write(out, &sheet)?.finish())
+    step("writing", || finish(sheet::write(out, &sheet)?, &scene.origin))
 }
 
 /// The outputs are the colours, the grey of band 1 and the grey of band 2.
 fn picture(files: &SceneFiles, strategy: AutoscaleStrategy, mode: SyntheticRgbMode, outs: [Option<PathBuf>; 3], form: Form) -> Outcome<()> {
-    for path in outs.iter().flatten() {
-        output::check(path, false, form)?;
-    }
+    let paths: Vec<&Path> = outs.iter().flatten().map(PathBuf::as_path).collect();
+    sheet::plan(&paths, false, form)?;
     let scene = step("reading", || Scene::read(&files.files, Wanted::Two, &files.reading))?;
-    output::spare_inputs(&outs.iter().flatten().map(PathBuf::as_path).collect::<Vec<_>>(), &scene.origin.files)?;
+    outputs::spare(&paths, scene.origin.files())?;
     let (rows, cols) = (scene.rows, scene.cols);
-    let mut grey1 = room::<u8>(rows, cols, 1);
-    let mut grey2 = room::<u8>(rows, cols, 1);
-    let mut rgb = room::<u8>(rows, cols, 3);
+    let mut grey1 = room::<u8>(rows, cols, 1)?;
+    let mut grey2 = room::<u8>(rows, cols, 1)?;
+    let mut rgb = room::<u8>(rows, cols, 3)?;
     let mut work = vec![0f64; strategy.work_len()];
     let [band1, band2] = [scene.bands[0].band(), scene.bands[1].band()];
     let (painted, origin) = step("painting", || {
         let lent = PictureOut { grey1: &mut grey1, grey2: &mut grey2, rgb: &mut rgb };
-        rayon::join(
+        threads::join(
             || engine::picture(strategy, mode, rows, cols, band1, band2, lent, &mut work),
             || origin::painted("picture", &scene, strategy, Some(mode)),
         )
     });
     painted.map_err(|refusal| explain::refused(refusal, &scene, strategy))?;
-    let common = scene.common_marks();
+    let origin = origin?;
+    let common = scene.common_marks()?;
     let save = |path: &Option<PathBuf>, picture: Picture, marks: &[u8]| match path {
-        Some(path) => Parts::write(path, &Sheet { rows, cols, picture, marks: Some(marks), georeference: &scene.georeference, origin: &origin, form }),
+        Some(path) => sheet::write(path, &Sheet { rows, cols, picture, marks: Some(marks), georeference: &scene.georeference, origin: &origin, form }),
         None => Ok(Parts::default()),
     };
     step("writing", || {
-        let (colours, (first, second)) = rayon::join(
+        let (colours, (first, second)) = threads::join(
             || save(&outs[0], Picture::Rgb(&rgb), &common),
             || {
-                rayon::join(
+                threads::join(
                     || save(&outs[1], Picture::Grey8(&grey1), band1.valid_mask),
                     || save(&outs[2], Picture::Grey8(&grey2), band2.valid_mask),
                 )
             },
         );
-        Parts::join([colours, first, second])?.finish()
+        finish(Parts::join([colours, first, second])?, &scene.origin)
     })
 }
 
 fn compose(names: [&OsStr; 2], part: PartOf, strategy: AutoscaleStrategy, mode: SyntheticRgbMode, out: &Path, form: Form) -> Outcome<()> {
-    output::check(out, false, form)?;
-    let [one, two] = Single::open_two(names, part.crop, Role::Greys)?;
-    let (band1, band2) = step("reading", || rayon::join(|| one.u8s(), || two.u8s()));
+    sheet::plan(&[out], false, form)?;
+    let [one, two] = Single::open_two(names, part, Role::Greys)?;
+    let (band1, band2) = step("reading", || threads::join(|| one.u8s(), || two.u8s()));
     let (band1, band2) = (band1?, band2?);
-    let mut rgb = vec![0u8; 3 * band1.elements().len()];
+    let mut rgb = memory::zeros(3 * band1.elements().len(), "a picture")?;
     step("composing", || engine::compose(mode, strategy, band1.elements(), band2.elements(), &mut rgb))?;
     one.write("compose", out, Picture::Rgb(&rgb), both(one.own_marks()?, two.own_marks()?).as_deref(), form)
 }
 
 fn stretch(grey: &OsStr, part: PartOf, out: &Path, form: Form) -> Outcome<()> {
-    output::check(out, false, form)?;
-    let single = Single::open(grey, part.crop, Role::Greys, judge_length)?;
+    sheet::plan(&[out], false, form)?;
+    let single = Single::open(grey, part, Role::Greys, judge_length)?;
     let data = step("reading", || single.u16s())?;
-    let mut bytes = vec![0u8; data.elements().len()];
+    let mut bytes = memory::zeros(data.elements().len(), "a picture")?;
     step("stretching", || engine::stretch(data.elements(), &mut bytes))?;
     single.write("stretch", out, Picture::Grey8(&bytes), single.own_marks()?.as_deref(), form)
 }
 
 fn pad(grey: &OsStr, part: PartOf, out: &Path, form: Form) -> Outcome<()> {
-    output::check(out, false, form)?;
-    let mut single = Single::open(grey, part.crop, Role::Greys, judge_limit)?;
+    sheet::plan(&[out], false, form)?;
+    let mut single = Single::open(grey, part, Role::Greys, judge_limit)?;
     let Part { rows, cols, .. } = single.part;
     let side = rows.max(cols);
     let wide = single.source.kind() == Some(Kind::U16);
     let (mut padded8, mut padded16) = (Vec::new(), Vec::new());
     if wide {
         let data = step("reading", || single.u16s())?;
-        padded16 = room::<u16>(side, side, 1);
+        padded16 = room::<u16>(side, side, 1)?;
         step("padding", || engine::pad_u16(rows, cols, data.elements(), &mut padded16))?;
     } else {
         let data = step("reading", || single.u8s())?;
-        padded8 = room::<u8>(side, side, 1);
+        padded8 = room::<u8>(side, side, 1)?;
         step("padding", || engine::pad_u8(rows, cols, data.elements(), &mut padded8))?;
     }
     let marks = match single.own_marks()? {
         Some(own) => {
-            let mut padded = room::<u8>(side, side, 1);
+            let mut padded = room::<u8>(side, side, 1)?;
             engine::pad_u8(rows, cols, &own, &mut padded)?;
             Some(padded)
         }
@@ -353,11 +369,11 @@ fn pad(grey: &OsStr, part: PartOf, out: &Path, form: Form) -> Outcome<()> {
 }
 
 fn operate(operation: PolarizationOperation, names: [&OsStr; 2], part: PartOf, out: &Path, form: Form) -> Outcome<()> {
-    output::check(out, true, form)?;
-    let [a, b] = Single::open_two(names, part.crop, Role::Numbers)?;
-    let (of_a, of_b) = step("reading", || rayon::join(|| a.f32s(), || b.f32s()));
+    sheet::plan(&[out], true, form)?;
+    let [a, b] = Single::open_two(names, part, Role::Numbers)?;
+    let (of_a, of_b) = step("reading", || threads::join(|| a.f32s(), || b.f32s()));
     let (of_a, of_b) = (of_a?, of_b?);
-    let mut result = vec![0f32; of_a.elements().len()];
+    let mut result = memory::zeros(of_a.elements().len(), "a raster")?;
     step("arithmetic", || engine::operate(operation, of_a.elements(), of_b.elements(), &mut result))?;
     let marks = both(a.own_marks()?, b.own_marks()?);
     if let Some(invalid) = marks.as_ref().map(|marks| marks.iter().filter(|mark| **mark == 0).count()).filter(|invalid| *invalid > 0) {

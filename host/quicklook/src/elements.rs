@@ -1,5 +1,7 @@
 //! Elements of rasters: their kinds by NumPy's names, and their exact numbers.
 
+use crate::memory::{self, Plain};
+use crate::trouble::{Outcome, Trouble};
 use std::fmt;
 use std::io::{self, Read};
 
@@ -54,6 +56,7 @@ pub struct Layout {
 #[derive(Debug)]
 pub enum Stop {
     Stream(io::Error),
+    Memory(Trouble),
     /// The element at this place has a value that the list cannot hold.
     Element { at: usize, value: String },
 }
@@ -69,6 +72,7 @@ impl fmt::Display for Stop {
         match self {
             Stop::Stream(error) if error.kind() == io::ErrorKind::UnexpectedEof => f.write_str("it ends too early"),
             Stop::Stream(error) => error.fmt(f),
+            Stop::Memory(trouble) => trouble.fmt(f),
             Stop::Element { at, value } => write!(f, "element {at} is {value}"),
         }
     }
@@ -78,7 +82,7 @@ impl fmt::Display for Stop {
 pub fn read<T>(input: &mut impl Read, layout: Layout, count: usize, take: impl Fn(f64) -> Option<T>) -> Result<Vec<T>, Stop> {
     const PIECE: usize = 1 << 16;
     let width = layout.kind.width();
-    let mut list = Vec::with_capacity(count);
+    let mut list = memory::room(count, "a raster").map_err(Stop::Memory)?;
     let mut bytes = vec![0; PIECE.min(count) * width];
     let mut numbers = Vec::with_capacity(PIECE.min(count));
     while list.len() < count {
@@ -153,12 +157,9 @@ fn half(bits: u16) -> f64 {
 }
 
 /// Row by row what stands column by column.
-pub fn turned<T: Copy>(columns: &[T], rows: usize, cols: usize) -> Vec<T> {
+pub fn turned<T: Plain>(columns: &[T], rows: usize, cols: usize) -> Outcome<Vec<T>> {
     const TILE: usize = 64;
-    let mut list = Vec::with_capacity(columns.len());
-    if let Some(&first) = columns.first() {
-        list.resize(columns.len(), first);
-    }
+    let mut list = memory::zeros(columns.len(), "a raster")?;
     for top in (0..rows).step_by(TILE) {
         for left in (0..cols).step_by(TILE) {
             for row in top..rows.min(top + TILE) {
@@ -168,7 +169,7 @@ pub fn turned<T: Copy>(columns: &[T], rows: usize, cols: usize) -> Vec<T> {
             }
         }
     }
-    list
+    Ok(list)
 }
 
 #[cfg(test)]
@@ -203,9 +204,9 @@ mod tests {
     #[test]
     fn columns_become_rows() {
         let (rows, cols) = (67, 130);
-        let columns: Vec<u32> = (0..cols).flat_map(|col| (0..rows).map(move |row| (row * 1000 + col) as u32)).collect();
-        let list = turned(&columns, rows, cols);
-        assert!((0..rows * cols).all(|i| list[i] == ((i / cols) * 1000 + i % cols) as u32));
-        assert!(turned::<u8>(&[], 0, 5).is_empty());
+        let columns: Vec<f64> = (0..cols).flat_map(|col| (0..rows).map(move |row| (row * 1000 + col) as f64)).collect();
+        let list = turned(&columns, rows, cols).unwrap();
+        assert!((0..rows * cols).all(|i| list[i] == ((i / cols) * 1000 + i % cols) as f64));
+        assert!(turned::<u8>(&[], 0, 5).unwrap().is_empty());
     }
 }

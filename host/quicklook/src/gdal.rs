@@ -12,6 +12,8 @@ pub struct Process {
     child: Child,
     input: Option<BufWriter<ChildStdin>>,
     output: BufReader<ChildStdout>,
+    /// Whether the process is of no use any more, whatever it was asked.
+    pub is_lost: bool,
 }
 
 /// What the process sees of the environment: where libraries and their data stand.
@@ -38,7 +40,7 @@ impl Process {
         let (Some(input), Some(output)) = (child.stdin.take(), child.stdout.take()) else {
             return Err("GDAL's part of the program has no pipes".into());
         };
-        Ok(Process { child, input: Some(BufWriter::new(input)), output: BufReader::with_capacity(1 << 18, output) })
+        Ok(Process { child, input: Some(BufWriter::new(input)), output: BufReader::with_capacity(1 << 18, output), is_lost: false })
     }
 
     /// Sends a request and gives the answer's fields.
@@ -50,6 +52,7 @@ impl Process {
     /// Why the process is not there any more, or of no use. One that goes on without sense is ended.
     fn lost(&mut self, error: &io::Error) -> String {
         self.input = None;
+        self.is_lost = true;
         for _ in 0..100 {
             match self.child.try_wait() {
                 Ok(None) => std::thread::sleep(Duration::from_millis(10)),
@@ -117,8 +120,9 @@ impl Process {
         }
     }
 
-    /// Writes a raster: the request, its elements and its mask.
-    pub fn write(&mut self, fields: &Fields, elements: &[u8], mask: &[u8]) -> Result<(), String> {
+    /// Makes a raster of the request, its elements and its mask, and gives the endings of the files that it consists of, whose bytes
+    /// `file` hands over in the same order.
+    pub fn write(&mut self, fields: &Fields, elements: &[u8], mask: &[u8]) -> Result<Vec<String>, String> {
         self.request("write", fields)?;
         let sent = match &mut self.input {
             Some(input) => [elements, mask].iter().try_for_each(|list| {
@@ -128,7 +132,24 @@ impl Process {
             None => Ok(()),
         };
         sent.and_then(|()| self.input.as_mut().map_or(Ok(()), Write::flush)).map_err(|e| self.lost(&e))?;
-        self.answer().map(|_| ())
+        Ok(self.answer()?.all("file").map(str::to_string).collect())
+    }
+
+    /// The bytes of the next file that the process made. The inner error is of `out`.
+    pub fn file(&mut self, out: &mut impl Write) -> Result<io::Result<()>, String> {
+        let mut pieces = Pieces::new(&mut self.output);
+        let mut bytes = vec![0; 1 << 16];
+        loop {
+            match pieces.read(&mut bytes) {
+                Ok(0) => return pieces.broken.take().map_or(Ok(Ok(())), Err),
+                Ok(got) => {
+                    if let Err(error) = out.write_all(&bytes[..got]) {
+                        return Ok(Err(error));
+                    }
+                }
+                Err(error) => return Err(self.lost(&error)),
+            }
+        }
     }
 }
 

@@ -17,18 +17,22 @@ pub struct Header {
 
 pub const MAGIC: &[u8; 6] = b"\x93NUMPY";
 
-/// Reads the header and checks that the file holds just the elements that it names.
-pub fn header(path: &Path, bytes: &[u8]) -> Outcome<Header> {
+/// Bytes of a file that hold its header: far above what NumPy writes.
+pub const LONGEST_HEADER: usize = 1 << 20;
+
+/// Reads the header from a file's first bytes, at most LONGEST_HEADER of them, and checks that a file of `len` bytes holds just the
+/// elements that it names.
+pub fn header(path: &Path, bytes: &[u8], len: u64) -> Outcome<Header> {
     let bad = |what: &str| Trouble::file(path, what);
     if bytes.len() < 10 || &bytes[..6] != MAGIC {
         return Err(bad("not a .npy file"));
     }
-    let (at, len): (usize, usize) = match bytes[6] {
+    let (at, text_len): (usize, usize) = match bytes[6] {
         1 => (10, u16::from_le_bytes([bytes[8], bytes[9]]) as usize),
         2 | 3 if bytes.len() >= 12 => (12, u32::from_le_bytes([bytes[8], bytes[9], bytes[10], bytes[11]]) as usize),
         _ => return Err(bad("a .npy version that is not 1, 2 or 3")),
     };
-    let start = at.checked_add(len).filter(|&end| end <= bytes.len()).ok_or_else(|| bad("truncated .npy header"))?;
+    let start = at.checked_add(text_len).filter(|&end| end <= bytes.len()).ok_or_else(|| bad("truncated .npy header"))?;
     let text = std::str::from_utf8(&bytes[at..start]).map_err(|_| bad("a .npy header that is not text"))?;
     let layout = match field(text, "descr").and_then(quoted) {
         Some(descr) => layout(descr).ok_or_else(|| bad(&format!("element type {descr}: floats, whole numbers and bools are read")))?,
@@ -46,8 +50,8 @@ pub fn header(path: &Path, bytes: &[u8]) -> Outcome<Header> {
     if rows.max(cols) > i32::MAX as usize {
         return Err(bad("a shape that is too large"));
     }
-    let wanted = rows.checked_mul(cols).and_then(|n| n.checked_mul(layout.kind.width())).ok_or_else(|| bad("a shape that is too large"))?;
-    match bytes.len() - start {
+    let wanted = rows.checked_mul(cols).and_then(|n| n.checked_mul(layout.kind.width())).ok_or_else(|| bad("a shape that is too large"))? as u64;
+    match len - start as u64 {
         there if there < wanted => Err(bad(&format!("truncated: {there} of {wanted} bytes of elements"))),
         there if there > wanted => Err(bad(&format!("{} bytes beyond the last element", there - wanted))),
         _ => Ok(Header { layout, fortran, rows, cols, start }),
@@ -112,7 +116,7 @@ mod tests {
     use super::*;
 
     fn read(bytes: &[u8]) -> Result<Header, String> {
-        header(Path::new("x.npy"), bytes).map_err(|trouble| trouble.to_string())
+        header(Path::new("x.npy"), bytes, bytes.len() as u64).map_err(|trouble| trouble.to_string())
     }
 
     #[test]

@@ -1,21 +1,24 @@
-//! What the program is doing, shown on a terminal only.
+//! What the program says beside its results: the step that it is at, on a terminal, and notes.
 
-use indicatif::{ProgressBar, ProgressStyle};
 use std::io::Write;
-use std::time::Duration;
 
 /// Runs a step; a terminal shows its name while it lasts.
 pub fn step<T>(name: &'static str, work: impl FnOnce() -> T) -> T {
-    let bar = ProgressBar::new_spinner();
-    bar.set_style(ProgressStyle::with_template("{spinner} {msg} {elapsed}").unwrap());
-    bar.set_message(name);
-    bar.enable_steady_tick(Duration::from_millis(120));
+    if unsafe { libc::isatty(2) } == 0 {
+        return work();
+    }
+    say(&format!("\r\x1b[K{name} "));
     let result = work();
-    bar.finish_and_clear();
+    say("\r\x1b[K");
     result
 }
 
-/// A line for the user beside the results; where standard error is closed there is nobody to tell.
+/// A line for the user beside the results.
 pub fn note(text: &str) {
-    let _ = writeln!(std::io::stderr(), "quicklook: {text}");
+    say(&format!("quicklook: {text}\n"));
+}
+
+/// Where standard error cannot be written there is nobody to tell.
+fn say(text: &str) {
+    let _ = std::io::stderr().write_all(text.as_bytes());
 }

@@ -1,14 +1,15 @@
 //! Scenes: decibels and marks of one band or two, named, judged by their headers, and read.
 
 use crate::arguments::{Marks, Reading, Scaling};
+use crate::memory;
+use crate::origin::{Input, Origin};
 use crate::progress::note;
 use crate::said::Role;
 use crate::source::{Failed, List, Name, OwnMarks, Source};
+use crate::threads;
 use crate::trouble::{Outcome, Trouble};
 use engine::Band;
-use rayon::prelude::*;
 use std::ffi::OsString;
-use std::path::PathBuf;
 use wire::{Georeference, Part};
 
 /// How many bands a command takes.
@@ -53,13 +54,6 @@ pub struct Scene {
     pub origin: Origin,
 }
 
-/// Which files a scene came from, and which part of them.
-#[derive(Clone, Default)]
-pub struct Origin {
-    pub files: Vec<PathBuf>,
-    pub crop: Option<Part>,
-}
-
 /// An opened band, judged and not read yet.
 struct Opened {
     db: Source,
@@ -82,27 +76,30 @@ impl Scene {
         for source in opened.iter().flat_map(|band| std::iter::once(&band.db).chain(&band.marks)) {
             tell_elsewhere(&opened[0].db, source);
         }
-        let mut files: Vec<PathBuf> = Vec::new();
+        let mut inputs: Vec<Input> = Vec::new();
         for source in opened.iter().flat_map(|band| std::iter::once(&band.db).chain(&band.marks)) {
-            for file in &source.files {
-                if !files.contains(file) {
-                    files.push(file.clone());
+            for input in &source.inputs {
+                if !inputs.contains(input) {
+                    inputs.push(input.clone());
                 }
             }
             source.notes.iter().for_each(|text| note(&format!("{}: GDAL says: {text}", source.shown)));
         }
-        let bands = opened.into_par_iter().zip(parts).map(|(band, part)| read_band(&band, part, reading)).collect::<Outcome<Vec<_>>>()?;
+        let pairs = opened.into_iter().zip(parts).collect();
+        let bands = threads::map(pairs, |(band, part)| read_band(&band, part, reading)).into_iter().collect::<Outcome<Vec<_>>>()?;
         bands.iter().flat_map(|band| &band.notes).for_each(|text| note(text));
-        Ok(Scene { rows: part.rows, cols: part.cols, bands, georeference, origin: Origin { files, crop } })
+        Ok(Scene { rows: part.rows, cols: part.cols, bands, georeference, origin: Origin { inputs, crop } })
     }
 
     /// Valid in every band.
-    pub fn common_marks(&self) -> Vec<u8> {
-        let mut marks = self.bands[0].band().valid_mask.to_vec();
+    pub fn common_marks(&self) -> Outcome<Vec<u8>> {
+        let first = self.bands[0].band().valid_mask;
+        let mut marks = memory::zeros(first.len(), "marks")?;
+        marks.copy_from_slice(first);
         for band in &self.bands[1..] {
             marks.iter_mut().zip(band.band().valid_mask).for_each(|(mark, other)| *mark &= other);
         }
-        marks
+        Ok(marks)
     }
 }
 
@@ -110,7 +107,7 @@ impl Scene {
 fn open(files: &[OsString], wanted: Wanted, reading: &Reading) -> Outcome<Vec<Opened>> {
     let is_auto = reading.marks == Some(Marks::Auto);
     let usage = |text: &str| Err(Trouble::Usage(text.to_string()));
-    let name = |k: usize| Name::new(&files[k]);
+    let name = |k: usize| Name::new(&files[k], reading.map);
     let pair = |db: Name, marks: Option<Name>| Names { db, marks };
     let names = match (files.len(), is_auto) {
         (1, true) => vec![pair(name(0), None)],
@@ -127,13 +124,12 @@ fn open(files: &[OsString], wanted: Wanted, reading: &Reading) -> Outcome<Vec<Op
         return usage("--marks-255 is for a marks file, --marks auto for none");
     }
     let most = if wanted == Wanted::One || names.len() == 2 { 1 } else { 2 };
-    let mut opened = names
-        .par_iter()
-        .map(|names| {
-            let (db, marks) = rayon::join(|| Source::open(&names.db, most), || names.marks.as_ref().map(|marks| Source::open(marks, most)).transpose());
-            Ok(Opened { db: db?, marks: marks? })
-        })
-        .collect::<Outcome<Vec<_>>>()?;
+    let mut opened = threads::map(names.iter().collect(), |names: &Names| {
+        let (db, marks) = threads::join(|| Source::open(&names.db, most), || names.marks.as_ref().map(|marks| Source::open(marks, most)).transpose());
+        Ok(Opened { db: db?, marks: marks? })
+    })
+    .into_iter()
+    .collect::<Outcome<Vec<_>>>()?;
     // One raster of two bands serves both, and its marks likewise.
     if let ([Opened { db, marks }], [names]) = (&opened[..], &names[..]) {
         match db.data_bands() {
@@ -207,7 +203,7 @@ pub fn same_sides((a, of_a): (&Source, Part), (b, of_b): (&Source, Part)) -> Out
 }
 
 fn read_band(band: &Opened, part: Part, reading: &Reading) -> Outcome<BandRasters> {
-    let (db, marks) = rayon::join(
+    let (db, marks) = threads::join(
         || decibels(&band.db, part, reading.scaling),
         || band.marks.as_ref().map(|marks| read_marks(marks, part, reading.marks_255)).transpose(),
     );
@@ -267,7 +263,7 @@ fn read_marks(source: &Source, part: Part, is_255: bool) -> Outcome<List<u8>> {
     };
     read.map_err(|failed| match failed {
         Failed::Element { row, col, value } => wrong_mark(&source.shown, source.band(), (row, col), &value, is_255),
-        Failed::File(_) => failed.trouble(source, ""),
+        Failed::File(_) | Failed::Memory(_) => failed.trouble(source, ""),
     })
 }
 

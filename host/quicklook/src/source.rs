@@ -1,50 +1,61 @@
 //! Rasters by name: opened, told what their files say, judged, and read exactly or refused. `.npy` files are read here, all others by
 //! GDAL's process (gdal.rs).
 
+use crate::bytes::{Bytes, STANDARD_INPUT};
 use crate::elements::{self, Kind, Layout, Stop};
 use crate::gdal::Process;
+use crate::memory::{self, Plain};
 use crate::npy;
+use crate::origin::Input;
 use crate::said::{Role, Said};
 use crate::trouble::{Outcome, Trouble};
-use memmap2::Mmap;
 use std::ffi::OsStr;
 use std::fs::{File, FileType};
-use std::io::Read;
+use std::io::{self, Read};
 use std::ops::Range;
 use std::os::unix::fs::FileTypeExt;
 use std::path::{Path, PathBuf};
 use std::sync::{Arc, Mutex};
 use wire::{Fields, Georeference, Part};
 
-/// A raster's name: a file or whatever GDAL opens, and a band of it where one is named.
+/// A raster's name: a file, standard input or whatever GDAL opens, and a band of it where one is named.
 #[derive(Clone, Debug)]
 pub struct Name {
     path: PathBuf,
     band: Option<usize>,
+    /// Whether a .npy file is mapped.
+    is_mapped: bool,
 }
 
 impl Name {
     /// `FILE`, or `FILE:BAND` where no file of the whole name exists.
-    pub fn new(word: &OsStr) -> Self {
-        let whole = Name { path: word.into(), band: None };
+    pub fn new(word: &OsStr, is_mapped: bool) -> Self {
+        let whole = Name { path: word.into(), band: None, is_mapped };
         let Some((head, tail)) = word.to_str().and_then(|text| text.rsplit_once(':')) else { return whole };
         match tail.parse::<usize>() {
             Ok(band) if tail.bytes().all(|c| c.is_ascii_digit()) && !head.is_empty() && !whole.path.exists() => {
-                Name { path: head.into(), band: Some(band) }
+                Name { path: head.into(), band: Some(band), is_mapped }
             }
             _ => whole,
         }
     }
 
     pub fn with_band(&self, band: usize) -> Self {
-        Name { path: self.path.clone(), band: Some(band) }
+        Name { band: Some(band), ..self.clone() }
     }
 
     pub fn names_band(&self) -> bool {
         self.band.is_some()
     }
 
+    fn is_standard_input(&self) -> bool {
+        self.path.as_os_str() == STANDARD_INPUT
+    }
+
     fn shown(&self) -> String {
+        if self.is_standard_input() {
+            return "standard input".into();
+        }
         match self.band {
             Some(band) => format!("{}:{band}", self.path.display()),
             None => self.path.display().to_string(),
@@ -53,7 +64,7 @@ impl Name {
 }
 
 enum Store {
-    Npy { map: Arc<Mmap>, head: npy::Header },
+    Npy { bytes: Arc<Bytes>, head: npy::Header },
     Gdal { process: Mutex<Process> },
 }
 
@@ -63,7 +74,7 @@ pub struct Source {
     pub rows: usize,
     pub cols: usize,
     pub georeference: Georeference,
-    pub files: Vec<PathBuf>,
+    pub inputs: Vec<Input>,
     /// What GDAL had to say that decides nothing.
     pub notes: Vec<String>,
     band: usize,
@@ -95,17 +106,17 @@ impl Source {
     /// Opens a raster by name; where no band is named it must have one data band, or `wanted` of them (the first is taken).
     pub fn open(name: &Name, wanted: usize) -> Outcome<Source> {
         // A name that ends in digits may be one of GDAL's own, such as an array's slice.
-        if let (Some(band), false) = (name.band, name.path.exists()) {
-            let whole = Name { path: format!("{}:{band}", name.path.display()).into(), band: None };
+        if let (Some(band), false) = (name.band, name.path.exists() || name.is_standard_input()) {
+            let whole = Name { path: format!("{}:{band}", name.path.display()).into(), band: None, ..*name };
             if let Ok(source) = Source::open(&whole, wanted) {
                 return Ok(source);
             }
         }
         let is_special = |kind: FileType| kind.is_fifo() || kind.is_socket() || kind.is_char_device() || kind.is_block_device();
         if name.path.starts_with("/vsistdin") || std::fs::metadata(&name.path).is_ok_and(|meta| is_special(meta.file_type())) {
-            return Err(Trouble::named(name.shown(), "not a plain file"));
+            return Err(Trouble::named(name.shown(), "not a plain file; - reads a .npy from standard input"));
         }
-        let opened = if is_npy(&name.path) { open_npy(name) } else { open_gdal(name) };
+        let opened = if name.is_standard_input() || is_npy(&name.path) { open_npy(name) } else { open_gdal(name) };
         let mut source = opened?;
         match name.band {
             Some(band) if band == 0 || band > source.all_bands => {
@@ -196,39 +207,50 @@ impl Source {
     }
 
     /// The elements of a part, row by row, each turned from its exact number by `take`.
-    pub fn read<T: Copy>(&self, part: Part, take: impl Fn(f64) -> Option<T>) -> Result<Vec<T>, Failed> {
+    pub fn read<T: Plain>(&self, part: Part, take: impl Fn(f64) -> Option<T>) -> Result<Vec<T>, Failed> {
         let layout = self.layout.ok_or_else(|| Failed::File("an element type that is not read".into()))?;
         let count = part.rows * part.cols;
         let read = match &self.store {
-            Store::Npy { map, head } => read_npy(map, head, part, take),
+            Store::Npy { bytes, head } => read_npy(bytes, head, part, take),
             Store::Gdal { process } => held(process)
                 .elements("pixels", self.band, part, |mut input| elements::read(&mut input, layout, count, take))
                 .map_err(Failed::File)?,
         };
         read.map_err(|stop| match stop {
             Stop::Stream(_) => Failed::File(stop.to_string()),
+            Stop::Memory(trouble) => Failed::Memory(trouble),
             Stop::Element { at, value } => Failed::Element { row: part.row + at / part.cols, col: part.col + at % part.cols, value },
         })
     }
 
-    /// A part as it stands in a mapped file, where its elements are just those of T.
-    fn mapped<T: Element>(&self, part: Part) -> Option<List<T>> {
-        let (map, head) = match &self.store {
-            Store::Npy { map, head } => (map, head),
-            Store::Gdal { .. } => return None,
-        };
-        let plain = !head.fortran && !head.layout.big_endian && cfg!(target_endian = "little") && T::KINDS.contains(&head.layout.kind);
+    /// Whole lines of a .npy file whose elements are just those of T: where they stand in memory, else read at once.
+    fn plain<T: Element>(&self, part: Part) -> Option<Result<List<T>, Failed>> {
+        let Store::Npy { bytes, head } = &self.store else { return None };
+        let is_plain = !head.fortran && !head.layout.big_endian && cfg!(target_endian = "little") && T::KINDS.contains(&head.layout.kind);
+        if !is_plain || part.cols != self.cols {
+            return None;
+        }
         let width = std::mem::size_of::<T>();
         let start = head.start + part.row * self.cols * width;
-        let aligned = (map.as_ptr() as usize + start) % std::mem::align_of::<T>() == 0;
-        let range = start..start + part.rows * part.cols * width;
-        if plain && aligned && part.cols == self.cols { Some(List::Mapped { map: map.clone(), range }) } else { None }
+        let count = part.rows * part.cols;
+        if let Some(all) = bytes.in_memory() {
+            let is_aligned = (all.as_ptr() as usize + start) % std::mem::align_of::<T>() == 0;
+            return is_aligned.then(|| Ok(List::InPlace { bytes: bytes.clone(), range: start..start + count * width }));
+        }
+        let read = memory::zeros(count, "a raster").map_err(Failed::Memory).and_then(|mut list: Vec<T>| {
+            // SAFETY: every bit pattern is a T, and the bytes are just those of the list.
+            let (before, into, after) = unsafe { list.align_to_mut::<u8>() };
+            debug_assert!(before.is_empty() && after.is_empty());
+            bytes.read(start, into).map_err(|e| Failed::File(Stop::Stream(e).to_string()))?;
+            Ok(List::Owned(list))
+        });
+        Some(read)
     }
 
-    /// The elements of a part: as they stand in a mapped file where that can be, else each turned by `take`.
+    /// The elements of a part: as they stand where that can be, else each turned by `take`.
     pub fn list<T: Element>(&self, part: Part, take: impl Fn(f64) -> Option<T>) -> Result<List<T>, Failed> {
-        match self.mapped(part) {
-            Some(list) => Ok(list),
+        match self.plain(part) {
+            Some(list) => list,
             None => self.read(part, take).map(List::Owned),
         }
     }
@@ -238,7 +260,11 @@ impl Source {
         let mut counts = Invalid::default();
         let mut marks = match self.mask(part)? {
             Some(mask) => mask,
-            None => vec![255; db.len()],
+            None => {
+                let mut all = memory::zeros(db.len(), "marks")?;
+                all.fill(255);
+                all
+            }
         };
         for (mark, value) in marks.iter_mut().zip(db) {
             match *mark {
@@ -271,9 +297,10 @@ impl Source {
             (Store::Npy { .. }, _) | (_, None) => Ok(None),
             (_, Some(Err(why))) => Err(bad(why.clone())),
             (Store::Gdal { process }, Some(Ok(_))) => {
-                let take = |input: &mut dyn Read| {
-                    let mut list = vec![0; part.rows * part.cols];
-                    input.read_exact(&mut list).map(|()| list)
+                let mut list = memory::zeros(part.rows * part.cols, "a mask")?;
+                let take = |input: &mut dyn Read| -> io::Result<Vec<u8>> {
+                    input.read_exact(&mut list)?;
+                    Ok(list)
                 };
                 let read = held(process).elements("mask", self.band, part, take).map_err(bad)?;
                 read.map(Some).map_err(|e| bad(e.to_string()))
@@ -285,6 +312,7 @@ impl Source {
 /// Why elements could not be read.
 pub enum Failed {
     File(String),
+    Memory(Trouble),
     /// The element there, by the file's own rows and columns, has a value that cannot be taken.
     Element { row: usize, col: usize, value: String },
 }
@@ -294,6 +322,7 @@ impl Failed {
     pub fn trouble(self, source: &Source, what: &str) -> Trouble {
         match self {
             Failed::File(why) => Trouble::named(&source.shown, why),
+            Failed::Memory(trouble) => trouble,
             Failed::Element { row, col, value } => Trouble::named(&source.shown, format!("row {row}, column {col}: {value} {what}")),
         }
     }
@@ -307,20 +336,26 @@ fn is_npy(path: &Path) -> bool {
 }
 
 fn open_npy(name: &Name) -> Outcome<Source> {
-    let path = &name.path;
-    let file = File::open(path).map_err(|e| Trouble::file(path, e))?;
-    if !file.metadata().is_ok_and(|meta| meta.is_file() && meta.len() > 0) {
-        return Err(Trouble::file(path, "not a .npy file"));
-    }
-    // SAFETY: the map is only read; a file that another program shortens meanwhile ends this program by a signal, as for any mapped file.
-    let map = unsafe { Mmap::map(&file) }.map_err(|e| Trouble::file(path, e))?;
-    let head = npy::header(path, &map)?;
+    let shown = name.shown();
+    let path = Path::new(&shown);
+    let (bytes, stamp) = if name.is_standard_input() {
+        (Bytes::of_standard_input()?, None)
+    } else {
+        let (bytes, stamp) = Bytes::open(&name.path, name.is_mapped)?;
+        (bytes, Some(stamp))
+    };
+    let mut first = vec![0; bytes.len().min(npy::LONGEST_HEADER as u64) as usize];
+    bytes.read(0, &mut first).map_err(|e| Trouble::file(path, Stop::Stream(e)))?;
+    let head = npy::header(path, &first, bytes.len())?;
+    let input = match (stamp, bytes.in_memory()) {
+        (None, Some(all)) => Input::of_bytes(&shown, all),
+        (stamp, _) => Input { path: name.path.clone(), stamp, digest: None },
+    };
     Ok(Source {
-        shown: name.shown(),
         rows: head.rows,
         cols: head.cols,
         georeference: Georeference::default(),
-        files: vec![path.clone()],
+        inputs: vec![input],
         notes: Vec::new(),
         band: 1,
         all_bands: 1,
@@ -328,29 +363,30 @@ fn open_npy(name: &Name) -> Outcome<Source> {
         data_bands: vec![1],
         layout: Some(head.layout),
         said: Said { scale: 1.0, ..Said::default() },
-        store: Store::Npy { map: Arc::new(map), head },
+        store: Store::Npy { bytes: Arc::new(bytes), head },
+        shown,
     })
 }
 
-/// The elements of a part of a mapped file.
-fn read_npy<T: Copy>(map: &Mmap, head: &npy::Header, part: Part, take: impl Fn(f64) -> Option<T>) -> Result<Vec<T>, Stop> {
+/// The elements of a part of a .npy file.
+fn read_npy<T: Plain>(bytes: &Bytes, head: &npy::Header, part: Part, take: impl Fn(f64) -> Option<T>) -> Result<Vec<T>, Stop> {
     let width = head.layout.kind.width();
     // As if the part stood row by row: lines of a Fortran file are its columns.
     let (lines, from, first, each) =
         if head.fortran { (part.cols, part.col, part.row, part.rows) } else { (part.rows, part.row, part.col, part.cols) };
     let line_len = if head.fortran { head.rows } else { head.cols };
-    let mut list = Vec::with_capacity(lines * each);
+    let mut list = memory::room(lines * each, "a raster").map_err(Stop::Memory)?;
+    let mut line_bytes = memory::zeros(each * width, "a raster").map_err(Stop::Memory)?;
     for line in from..from + lines {
-        let start = head.start + (line * line_len + first) * width;
-        let mut bytes = &map[start..start + each * width];
-        let read = elements::read(&mut bytes, head.layout, each, &take).map_err(|stop| match stop {
+        bytes.read(head.start + (line * line_len + first) * width, &mut line_bytes)?;
+        let read = elements::read(&mut &line_bytes[..], head.layout, each, &take).map_err(|stop| match stop {
             Stop::Element { at, value } if head.fortran => Stop::Element { at: at * part.cols + line - from, value },
             Stop::Element { at, value } => Stop::Element { at: (line - from) * part.cols + at, value },
             other => other,
         });
         list.extend(read?);
     }
-    Ok(if head.fortran { elements::turned(&list, part.rows, part.cols) } else { list })
+    if head.fortran { elements::turned(&list, part.rows, part.cols).map_err(Stop::Memory) } else { Ok(list) }
 }
 
 fn open_gdal(name: &Name) -> Outcome<Source> {
@@ -372,7 +408,7 @@ fn open_gdal(name: &Name) -> Outcome<Source> {
         rows: number("rows")?,
         cols: number("cols")?,
         georeference: Georeference::get(&told).map_err(|e| bad(e.to_string()))?,
-        files: if files.is_empty() { vec![name.path.clone()] } else { files },
+        inputs: if files.is_empty() { vec![Input::of(&name.path)] } else { files.iter().map(|file| Input::of(file)).collect() },
         notes: told.all("note").map(str::to_string).collect(),
         band: 0,
         all_bands: number("bands")?,
@@ -385,14 +421,14 @@ fn open_gdal(name: &Name) -> Outcome<Source> {
     })
 }
 
-/// A list of elements, in a mapped file or in memory.
+/// A list of elements, or where they stand in a file's bytes.
 pub enum List<T> {
     Owned(Vec<T>),
-    Mapped { map: Arc<Mmap>, range: Range<usize> },
+    InPlace { bytes: Arc<Bytes>, range: Range<usize> },
 }
 
 /// An element that any bit pattern is a value of.
-pub trait Element: Copy {
+pub trait Element: Plain {
     const KINDS: &'static [Kind];
 }
 impl Element for u8 {
@@ -412,9 +448,9 @@ impl<T: Element> List<T> {
     pub fn elements(&self) -> &[T] {
         match self {
             List::Owned(list) => list,
-            List::Mapped { map, range } => {
+            List::InPlace { bytes, range } => {
                 // SAFETY: every bit pattern is a T, and the start was tested to be aligned when the part was taken.
-                let (before, elements, after) = unsafe { map[range.clone()].align_to::<T>() };
+                let (before, elements, after) = unsafe { bytes.in_memory().unwrap_or_default()[range.clone()].align_to::<T>() };
                 debug_assert!(before.is_empty() && after.is_empty());
                 elements
             }

@@ -1,10 +1,22 @@
-//! What can go wrong, and the exit status of each: a refusal exits with its table number, a file with 74, wrong use with 64.
+//! What can go wrong, and the exit status of each.
 
 use std::fmt;
 use std::path::Path;
 
-pub const FILE_STATUS: u8 = 74;
 pub const USAGE_STATUS: u8 = 64;
+pub const INTERNAL_STATUS: u8 = 70;
+pub const MEMORY_STATUS: u8 = 71;
+pub const FILE_STATUS: u8 = 74;
+
+/// The table of exit statuses, as help, manual and README show it.
+pub const STATUSES: [(&str, &str); 6] = [
+    ("0", "done: every output is written"),
+    ("1 to 6", "the engine's refusal of that number, printed with its meaning, place and remedy"),
+    ("64", "wrong use: words that do not fit together, or an output that cannot be meant"),
+    ("70", "internal error: a fault of this program"),
+    ("71", "no memory for the scene; how much was wanted is printed"),
+    ("74", "a file, or standard output, that cannot be read or written"),
+];
 
 #[derive(Debug)]
 pub enum Trouble {
@@ -12,6 +24,7 @@ pub enum Trouble {
     Refused(u8, String),
     File(String),
     Usage(String),
+    Memory(String),
 }
 
 pub type Outcome<T> = Result<T, Trouble>;
@@ -31,6 +44,7 @@ impl Trouble {
             Trouble::Refused(number, _) => *number,
             Trouble::File(_) => FILE_STATUS,
             Trouble::Usage(_) => USAGE_STATUS,
+            Trouble::Memory(_) => MEMORY_STATUS,
         }
     }
 }
@@ -45,7 +59,7 @@ impl fmt::Display for Trouble {
     fn fmt(&self, f: &mut fmt::Formatter<'_>) -> fmt::Result {
         match self {
             Trouble::Refused(number, words) => write!(f, "refused {number}: {words}"),
-            Trouble::File(what) | Trouble::Usage(what) => f.write_str(what),
+            Trouble::File(what) | Trouble::Usage(what) | Trouble::Memory(what) => f.write_str(what),
         }
     }
 }

@@ -3,16 +3,18 @@
 use crate::arguments::SceneFiles;
 use crate::commands::room;
 use crate::explain;
+use crate::gdal::Process;
 use crate::json::{numbers, quoted, Json};
 use crate::origin::{self, painted_window, Items};
-use crate::output::{spare_inputs, Parts};
+use crate::outputs;
+use crate::parts::Parts;
 use crate::progress::{note, step};
 use crate::scene::{BandRasters, Scene, Wanted};
+use crate::threads;
 use crate::trouble::{Outcome, Trouble};
 use engine::{Answer, AutoscaleStrategy, PictureOut, Statistics, SyntheticRgbMode, Window};
 use flate2::write::ZlibEncoder;
 use flate2::Compression;
-use rayon::prelude::*;
 use std::io::Write;
 use std::path::Path;
 use wire::Georeference;
@@ -31,19 +33,21 @@ struct List {
     bytes: Vec<u8>,
 }
 
-pub fn run(files: &SceneFiles, strategy: AutoscaleStrategy, mode: SyntheticRgbMode, title: Option<String>, out: &Path) -> Outcome<()> {
+pub fn run(files: &SceneFiles, strategy: AutoscaleStrategy, mode: SyntheticRgbMode, title: Option<String>, (out, force): (&Path, bool)) -> Outcome<()> {
     if !matches!(out.extension().and_then(|e| e.to_str()), Some("html" | "htm")) {
         return Err(Trouble::Usage(format!("{}: name a page that ends in .html", out.display())));
     }
+    outputs::judge(&[out.to_path_buf()], force)?;
     let read = step("reading", || Scene::read(&files.files, Wanted::OneOrTwo, &files.reading))?;
-    spare_inputs(&[out], &read.origin.files)?;
+    outputs::spare(&[out], read.origin.files())?;
     let (rows, cols) = (read.rows, read.cols);
     let refused = |refusal| explain::refused(refusal, &read, strategy);
     let (painted, origin) = step("painting", || {
         let is_picture = read.bands.len() == 2;
-        rayon::join(|| paint(strategy, mode, &read), || origin::painted("view", &read, strategy, is_picture.then_some(mode)))
+        threads::join(|| paint(strategy, mode, &read), || origin::painted("view", &read, strategy, is_picture.then_some(mode)))
     });
-    let (first, rest) = painted.map_err(refused)?;
+    let (first, rest) = painted?.map_err(refused)?;
+    let origin = origin?;
     let title = title.unwrap_or_else(|| {
         let mut names: Vec<String> = read.bands.iter().map(|band| name_of(&band.db_name)).collect();
         names.dedup();
@@ -52,9 +56,10 @@ pub fn run(files: &SceneFiles, strategy: AutoscaleStrategy, mode: SyntheticRgbMo
     let mut scene = step("statistics", || describe(&title, strategy, mode, &read, &origin)).map_err(refused)?;
     let block_rows = (1usize << 20).div_ceil(cols.max(1)).min(rows.max(1));
     scene.number("blockRows", block_rows);
+    scene.raw("ground", &ground(&read.georeference, rows, cols)?.unwrap_or_else(|| "null".into()));
     let scene = scene.object();
     step("packing", || {
-        Parts::fill(out, |file| {
+        let page = Parts::fill(out, force, |file| {
             let bad = |e: std::io::Error| Trouble::file(out, e);
             let mut page = PAGE;
             while let Some(at) = page.find("{{") {
@@ -72,8 +77,9 @@ pub fn run(files: &SceneFiles, strategy: AutoscaleStrategy, mode: SyntheticRgbMo
                 page = &page[end + 2..];
             }
             file.write_all(page.as_bytes()).map_err(bad)
-        })?
-        .finish()
+        })?;
+        read.origin.unchanged()?;
+        page.finish()
     })
 }
 
@@ -82,21 +88,25 @@ fn name_of(shown: &str) -> String {
 }
 
 /// The lists of the page as the engine gives them: the one shown first, and the others.
-fn paint(strategy: AutoscaleStrategy, mode: SyntheticRgbMode, scene: &Scene) -> Answer<(List, Vec<List>)> {
+fn paint(strategy: AutoscaleStrategy, mode: SyntheticRgbMode, scene: &Scene) -> Outcome<Answer<(List, Vec<List>)>> {
     let &Scene { rows, cols, ref bands, .. } = scene;
     let mut work = vec![0f64; strategy.work_len()];
-    let mut grey1 = room::<u8>(rows, cols, 1);
+    let mut grey1 = room::<u8>(rows, cols, 1)?;
     let list = |name: String, width: usize, bytes: Vec<u8>| List { name, width, bytes };
     let (first, mut rest) = match &bands[..] {
         [one] => {
-            engine::grey_u8(strategy, rows, cols, one.band(), &mut grey1, &mut work)?;
+            if let Err(refusal) = engine::grey_u8(strategy, rows, cols, one.band(), &mut grey1, &mut work) {
+                return Ok(Err(refusal));
+            }
             (list("grey1".into(), 1, grey1), Vec::new())
         }
         [one, two, ..] => {
-            let mut grey2 = room::<u8>(rows, cols, 1);
-            let mut rgb = room::<u8>(rows, cols, 3);
+            let mut grey2 = room::<u8>(rows, cols, 1)?;
+            let mut rgb = room::<u8>(rows, cols, 3)?;
             let lent = PictureOut { grey1: &mut grey1, grey2: &mut grey2, rgb: &mut rgb };
-            engine::picture(strategy, mode, rows, cols, one.band(), two.band(), lent, &mut work)?;
+            if let Err(refusal) = engine::picture(strategy, mode, rows, cols, one.band(), two.band(), lent, &mut work) {
+                return Ok(Err(refusal));
+            }
             (list("rgb".into(), 3, rgb), vec![list("grey1".into(), 1, grey1), list("grey2".into(), 1, grey2)])
         }
         [] => unreachable!("a page has a band"),
@@ -107,28 +117,25 @@ fn paint(strategy: AutoscaleStrategy, mode: SyntheticRgbMode, scene: &Scene) -> 
     for (k, band) in bands.iter().enumerate() {
         rest.push(list(format!("db{}", k + 1), 8, band.band().db.iter().flat_map(|v| v.to_le_bytes()).collect()));
     }
-    Ok((first, rest))
+    Ok(Ok((first, rest)))
 }
 
 /// Blocks of rows, each packed by zlib and written in base64 as an element of its own. The bytes of floats are put apart by their place,
 /// since those of one place pack better together.
 fn pack(out: &mut impl Write, list: &List, cols: usize, block_rows: usize) -> std::io::Result<()> {
     let block = (block_rows * cols * list.width).max(1);
-    let packed: Vec<String> = list
-        .bytes
-        .par_chunks(block)
-        .map(|bytes| {
-            let apart: Vec<u8>;
-            let bytes = if list.width == 8 {
-                apart = (0..8).flat_map(|place| bytes[place..].iter().step_by(8).copied()).collect();
-                &apart
-            } else {
-                bytes
-            };
-            let mut encoder = ZlibEncoder::new(Vec::with_capacity(bytes.len() / 2), Compression::fast());
-            encoder.write_all(bytes).and_then(|()| encoder.finish()).map(base64::encode)
-        })
-        .collect::<std::io::Result<_>>()?;
+    let packed = threads::map(list.bytes.chunks(block).collect(), |bytes: &[u8]| {
+        let apart: Vec<u8>;
+        let bytes = if list.width == 8 {
+            apart = (0..8).flat_map(|place| bytes[place..].iter().step_by(8).copied()).collect();
+            &apart
+        } else {
+            bytes
+        };
+        let mut encoder = ZlibEncoder::new(Vec::with_capacity(bytes.len() / 2), Compression::fast());
+        encoder.write_all(bytes).and_then(|()| encoder.finish()).map(base64::encode)
+    });
+    let packed = packed.into_iter().collect::<std::io::Result<Vec<String>>>()?;
     for (k, text) in packed.iter().enumerate() {
         writeln!(out, "<script type=\"application/octet-stream\" id=\"{}-{k}\">{text}</script>", list.name)?;
     }
@@ -170,42 +177,40 @@ fn describe(title: &str, strategy: AutoscaleStrategy, mode: SyntheticRgbMode, sc
     json.raw("statistics", &list(&statistics));
     json.raw("windows", &list(&windows));
     json.raw("histograms", &list(&histograms));
-    json.raw("ground", &ground(&scene.georeference, rows, cols).unwrap_or_else(|| "null".into()));
     let origin: Vec<String> = origin.iter().map(|(name, words)| format!("[{},{}]", quoted(name), quoted(words))).collect();
     json.raw("origin", &list(&origin));
     Ok(json)
 }
 
-/// Where the pixels lie, for the page: the six numbers where there are such, and a grid of places to read between.
-fn ground(georeference: &Georeference, rows: usize, cols: usize) -> Option<String> {
+/// Where the pixels lie, for the page: the six numbers where there are such, and a grid of places to read between. None, and a note, where
+/// GDAL cannot tell.
+fn ground(georeference: &Georeference, rows: usize, cols: usize) -> Outcome<Option<String>> {
     if !georeference.is_there() || rows * cols == 0 {
-        return None;
+        return Ok(None);
     }
-    let asked = (|| {
-        let mut fields = wire::Fields::default();
-        georeference.put(&mut fields);
-        fields.put("rows", rows);
-        fields.put("cols", cols);
-        let told = crate::gdal::Process::start()?.ask("places", &fields)?;
-        let lines = told.all("line").map(|words| wire::floats(words).map_err(|e| e.to_string())).collect::<Result<Vec<_>, _>>()?;
-        Ok::<_, String>((told, lines.concat()))
-    })();
-    match asked {
-        Ok((told, places)) => {
-            let mut json = Json::default();
-            json.text("crs", &told.text("crs"));
-            json.raw("transform", &georeference.transform.map_or_else(|| "null".into(), |t| numbers(&t)));
-            for name in ["step", "down", "across", "off"] {
-                json.raw(name, &told.text(name));
-            }
-            json.raw("places", &numbers(&places));
-            Some(json.object())
-        }
+    let bad = |why: String| Trouble::named("the page's coordinates", why);
+    let mut fields = wire::Fields::default();
+    georeference.put(&mut fields);
+    fields.put("rows", rows);
+    fields.put("cols", cols);
+    let mut process = Process::start().map_err(bad)?;
+    let told = match process.ask("places", &fields) {
+        Ok(told) => told,
+        Err(why) if process.is_lost => return Err(bad(why)),
         Err(why) => {
             note(&format!("the page has no coordinates: {why}"));
-            None
+            return Ok(None);
         }
+    };
+    let lines = told.all("line").map(|words| wire::floats(words).map_err(|e| bad(e.to_string()))).collect::<Outcome<Vec<_>>>()?;
+    let mut json = Json::default();
+    json.text("crs", &told.text("crs"));
+    json.raw("transform", &georeference.transform.map_or_else(|| "null".into(), |t| numbers(&t)));
+    for name in ["step", "down", "across", "off"] {
+        json.raw(name, &told.text(name));
     }
+    json.raw("places", &numbers(&lines.concat()));
+    Ok(Some(json.object()))
 }
 
 /// Counts of valid decibels between the least and the greatest, for drawing only.
