@@ -1,6 +1,8 @@
-"""The readers on damaged files: thousands of mutated rasters, none of which may end the program by a signal, a panic, a hang, an unknown status
-or more memory than a scene may take. Usage: fuzz.py PATH-OF-QUICKLOOK [SECONDS] [SEED]"""
+"""The program on damaged files, and with calls of the system that fail: thousands of mutated rasters, and faults at random places (faults/shim.c),
+none of which may end the program by a signal, a panic, a hang, an unknown status or more memory than a scene may take, nor cost an earlier file or
+leave a part file. Usage: fuzz.py PATH-OF-QUICKLOOK [SECONDS] [SEED]"""
 import collections
+import errno
 import os
 import random
 import subprocess
@@ -16,9 +18,14 @@ from PIL import Image
 PROGRAM = os.path.abspath(sys.argv[1])
 SECONDS = float(sys.argv[2]) if len(sys.argv) > 2 else 40
 SEED = int(sys.argv[3]) if len(sys.argv) > 3 else 1
-STATUSES = {0, 1, 2, 3, 4, 5, 6, 64, 74}
+STATUSES = {0, 1, 2, 3, 4, 5, 6, 64, 71, 74}
+SHIM = tempfile.NamedTemporaryFile(suffix=".so")
+# Calls that fail at random, and how far into a run they may.
+FAULTS = {"open": 40, "write": 60, "read": 120, "pread": 12, "fsync": 3, "rename": 2, "link": 2, "fchmod": 1, "fchown": 1, "flock": 3, "getrandom": 2, "thread": 2, "spawn": 4,
+          "pipe": 12}
+EARLIER = b"an earlier file"
 LONGEST = 30            # seconds of one run
-MOST_MEMORY = 700_000   # kilobytes of the program or of GDAL's process
+MOST_MEMORY = 1_200_000 # kilobytes of the program or of GDAL's process, which may take 1 GiB beside its libraries
 
 gdal.UseExceptions()
 
@@ -99,11 +106,12 @@ def mutated(dice, whole):
     return bytes(bytes_)
 
 
-def run(words, folder):
+def run(words, folder, fault=None):
     """Status, standard error, seconds and peak memory of one run."""
     begun = time.monotonic()
+    environment = dict(os.environ, FAULT=fault, LD_PRELOAD=SHIM.name) if fault else None
     with tempfile.TemporaryFile() as told:
-        process = subprocess.Popen([PROGRAM, *words], cwd=folder, stdin=subprocess.DEVNULL, stdout=subprocess.DEVNULL, stderr=told)
+        process = subprocess.Popen([PROGRAM, *words], cwd=folder, stdin=subprocess.DEVNULL, stdout=subprocess.DEVNULL, stderr=told, env=environment)
         timer = threading.Timer(LONGEST, process.kill)
         timer.start()
         _, status, usage = os.wait4(process.pid, 0)
@@ -127,23 +135,47 @@ def worker(number, made, folder, end, counts, bad):
                 file.write(whole[name])
     while time.monotonic() < end:
         name, files, words = dice.choice(made)
+        words = [word.format(name) for word in words]
         victim = dice.choice(files)
-        harmed = mutated(dice, whole[victim])
+        # A damaged file, a fault, or both; to standard output or a file.
+        way = dice.random()
+        harmed = mutated(dice, whole[victim]) if way < 0.8 else whole[victim]
+        call, reach = dice.choice(list(FAULTS.items()))
+        # A call that is interrupted each time is tried for ever, by the C library too.
+        error, for_ever = dice.choice(((errno.EIO, ""), (errno.EIO, "*"), (errno.ENOSPC, ""), (errno.ENOSPC, "*"), (errno.EPERM, ""), (errno.EINTR, "")))
+        fault = f"{call}:{dice.randint(1, reach)}{for_ever}:{error}" if way > 0.6 else None
+        out = next((word for word in words if word.startswith("o.")), None)
+        if words[0] == "stats" and dice.random() < 0.5:
+            out = dice.choice(("o.npy", "o.png", "o.tif", "o.html"))
+            words = ["view" if out == "o.html" else "grey", *words[1:], "--out", out]
         with open(os.path.join(mine, victim), "wb") as file:
             file.write(harmed)
-        status, told, seconds, memory = run([word.format(name) for word in words], mine)
+        if out:
+            with open(os.path.join(mine, out), "wb") as file:
+                file.write(EARLIER)
+        before = set(os.listdir(mine))
+        status, told, seconds, memory = run(words, mine, fault)
         counts[status] += 1
-        if status not in STATUSES or "panicked" in told or seconds > LONGEST or memory > MOST_MEMORY:
-            bad.append(f"{name} ({victim}): status {status}, {seconds:.1f} s, {memory} KB: {told[:300]}")
+        lost = None
+        if out and status:
+            with open(os.path.join(mine, out), "rb") as file:
+                lost = "the earlier file is lost" if file.read() != EARLIER else None
+        more = set(os.listdir(mine)) - before - ({out + ".aux.xml"} if out and status == 0 else set())
+        if status not in STATUSES or "panicked" in told or "internal error" in told or seconds > LONGEST or memory > MOST_MEMORY or lost or more:
+            bad.append(f"{' '.join(words)} ({victim}, {fault}): status {status}, {seconds:.1f} s, {memory} KB, {lost}, left {sorted(more)}: {told[:300]}")
             keep = os.environ.get("FUZZ_KEEP")
             if keep:
                 with open(os.path.join(keep, f"{number}-{len(bad)}-{victim}"), "wb") as file:
                     file.write(harmed)
         with open(os.path.join(mine, victim), "wb") as file:
             file.write(whole[victim])
+        for name in set(os.listdir(mine)) - before:
+            os.unlink(os.path.join(mine, name))
 
 
 def main():
+    shim = os.path.join(os.path.dirname(os.path.abspath(__file__)), "faults", "shim.c")
+    subprocess.run(["gcc", "-shared", "-fPIC", "-O1", "-o", SHIM.name, shim, "-ldl"], check=True)
     with tempfile.TemporaryDirectory() as folder:
         made = seeds(folder)
         for name, _, words in made:
@@ -160,7 +192,7 @@ def main():
     for line in bad[:20]:
         print(line)
     statuses = ", ".join(f"{status}: {count}" for status, count in sorted(counts.items()))
-    print(f"{sum(counts.values())} damaged files of {len(made)} kinds, {len(bad)} ended badly; statuses {statuses}")
+    print(f"{sum(counts.values())} runs on rasters of {len(made)} kinds, damaged or with failing calls; {len(bad)} ended badly; statuses {statuses}")
     sys.exit(1 if bad or not counts else 0)
 
 

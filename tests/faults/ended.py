@@ -1,0 +1,171 @@
+"""Ended from outside: signals, kill -9 at random times, several runs at once."""
+import os
+import random
+import signal
+import subprocess
+import time
+
+from faults.common import EARLIER, FORMATS, PROGRAM, Case, shim
+
+TIMES = int(os.environ.get("FAULT_TIMES", "100"))
+
+
+class Ended(Case):
+    rows, cols = 400, 500
+
+    def start(self, words, **more):
+        return subprocess.Popen([PROGRAM, *words], cwd=self.folder, stdin=subprocess.DEVNULL, stdout=subprocess.DEVNULL, stderr=subprocess.DEVNULL, **more)
+
+    def took(self, words):
+        begun = time.monotonic()
+        self.done(*words)
+        return time.monotonic() - begun
+
+    def at_random_times(self, form, how, times, seed):
+        """Ends the program at random times. Gives how often it ended before its outputs were there, after, and between."""
+        names, words = FORMATS[form], self.words(form)
+        dice = random.Random(seed)
+        seconds = min(self.took(words) for _ in range(3))
+        new = self.bytes_of(names)
+        counts = {"old": 0, "new": 0, "both": 0, "left": 0}
+        for _ in range(times):
+            self.put_earlier(names)
+            process = self.start(words)
+            time.sleep(dice.uniform(0, 1.2 * seconds))
+            process.send_signal(how)
+            status = process.wait(timeout=60)
+            self.assertIn(status, (0, -how))
+            found = self.bytes_of(names)
+            for got, whole in zip(found, new):
+                self.assertIn(got, (EARLIER, whole), (form, how))
+            if found == new:
+                counts["new"] += 1
+            elif found == [EARLIER] * len(names):
+                counts["old"] += 1
+            else:
+                counts["both"] += 1
+            if status == 0:
+                self.assertEqual(found, new)
+            counts["left"] += len(self.left())
+            if how != signal.SIGKILL:
+                self.assertEqual(self.left(), [], form)
+        return counts
+
+    def killed(self, form):
+        counts = self.at_random_times(form, signal.SIGKILL, TIMES, 7)
+        print(f"kill -9, {form}: {counts}", flush=True)
+        self.assertGreater(counts["old"], TIMES / 10)
+        self.assertLessEqual(counts["both"], TIMES / 20)
+        # The next run for the same outputs removes what the killed ones left.
+        self.done(*self.words(form))
+        self.assertEqual(self.left(), [])
+        self.assertEqual(sorted(name for name in os.listdir(self.folder) if name not in FORMATS[form]), self.inputs)
+
+    def test_killed_npy(self):
+        self.killed("npy")
+
+    def test_killed_png(self):
+        self.killed("png")
+
+    def test_killed_png_with_world_files(self):
+        self.killed("world")
+
+    def test_killed_tif(self):
+        self.killed("tif")
+
+    def test_killed_cog(self):
+        self.killed("cog")
+
+    def test_killed_page(self):
+        self.killed("html")
+
+    def test_signals(self):
+        """All outputs or none, and nothing beside them."""
+        for form in ("npy", "tif", "html"):
+            for how in (signal.SIGINT, signal.SIGTERM, signal.SIGHUP, signal.SIGQUIT):
+                counts = self.at_random_times(form, how, TIMES // 8, int(how))
+                self.assertEqual(counts["both"], 0, (form, how, counts))
+                self.assertEqual(counts["left"], 0, (form, how, counts))
+
+    def test_signal_while_names_are_given(self):
+        """A signal between two renames waits for the last of them."""
+        names, words = FORMATS["npy"], self.words("npy")
+        self.done(*words)
+        new = self.bytes_of(names)
+        self.put_earlier(names)
+        environment = dict(os.environ, LD_PRELOAD=shim(), FAULT="rename:2:0", FAULT_WAIT="2")
+        process = self.start(words, env=environment)
+        end = time.monotonic() + 30
+        while self.bytes_of(names)[0] == EARLIER and time.monotonic() < end:
+            time.sleep(0.01)
+        self.assertEqual(self.bytes_of(names), [new[0], EARLIER, EARLIER])
+        process.send_signal(signal.SIGTERM)
+        self.assertEqual(process.wait(timeout=60), -signal.SIGTERM)
+        self.assertEqual(self.bytes_of(names), new)
+        self.assertEqual(self.left(), [])
+
+    def test_ignored_signals_stay_ignored(self):
+        """As nohup has it."""
+        words = self.words("npy")
+        seconds = self.took(words)
+        for part in range(1, 8):
+            process = self.start(words, preexec_fn=lambda: signal.signal(signal.SIGHUP, signal.SIG_IGN))
+            time.sleep(part * seconds / 8)
+            process.send_signal(signal.SIGHUP)
+            self.assertEqual(process.wait(timeout=60), 0)
+
+    def test_a_living_run_keeps_its_part_files(self):
+        """A run for the same output takes no part file from one that still writes."""
+        names, words = FORMATS["npy"], self.words("npy")
+        slow = self.start(words, env=dict(os.environ, LD_PRELOAD=shim(), FAULT="fsync:3:0", FAULT_WAIT="3"))
+        end = time.monotonic() + 30
+        while len(self.left()) < 3 and time.monotonic() < end:
+            time.sleep(0.01)
+        self.assertEqual(len(self.left()), 3)
+        self.done(*words)
+        self.assertEqual(len(self.left()), 3)
+        self.assertEqual(slow.wait(timeout=60), 0)
+        self.assertEqual(self.left(), [])
+        self.assertNotIn(None, self.bytes_of(names))
+
+    def test_several_at_once(self):
+        """Runs of different results on one output, with process numbers and all: the file is always one of them, whole."""
+        results = []
+        for strategy in ("default", "robust", "equalized", "tamed"):
+            words = ["picture", "db1.npy", "marks1.npy", "db2.npy", "marks2.npy", "--strategy", strategy, "--out", "o.npy"]
+            self.done(*words)
+            results.append((words, (self.folder / "o.npy").read_bytes()))
+        self.assertGreaterEqual(len({whole for _, whole in results}), 3)
+        for _ in range(20):
+            running = [self.start(words) for words, _ in results for _ in range(2)]
+            while any(process.poll() is None for process in running):
+                self.assertIn((self.folder / "o.npy").read_bytes(), [whole for _, whole in results])
+            self.assertEqual([process.returncode for process in running], [0] * len(running))
+            self.assertEqual(self.left(), [])
+
+    def test_gdals_process_ends_with_the_program(self):
+        """Killed while it reads what GDAL's process tells, with every read slow enough to be met."""
+        process = self.start(self.words("tif"), env=dict(os.environ, LD_PRELOAD=shim(), FAULT="read:1*:0", FAULT_WAIT="0.3"))
+
+        def state(number):
+            """The state and the parent of a process; none of one that is gone."""
+            try:
+                with open(f"/proc/{number}/stat") as file:
+                    return file.read().rpartition(")")[2].split()[:2]
+            except (FileNotFoundError, ProcessLookupError):
+                return None
+
+        def children():
+            return [number for number in os.listdir("/proc") if number.isdigit() and (state(number) or ["", ""])[1] == str(process.pid)]
+
+        end = time.monotonic() + 20
+        while not children() and time.monotonic() < end:
+            time.sleep(0.01)
+        found = children()
+        process.kill()
+        process.wait()
+        self.assertTrue(found)
+        end = time.monotonic() + 20
+        while any((state(child) or "Z")[0] != "Z" for child in found) and time.monotonic() < end:
+            time.sleep(0.01)
+        self.assertTrue(all((state(child) or "Z")[0] == "Z" for child in found))
