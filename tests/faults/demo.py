@@ -42,12 +42,56 @@ class Demo(Case):
         self.assertEqual((self.folder / "d" / "other.npy").read_bytes(), b"another")
         self.fails(64, "other.npy", *self.demo())
 
+    def test_links_and_lists_of_others(self):
+        """What stands elsewhere is neither replaced nor removed, whatever a list says; nobody is waited for."""
+        (self.folder / "other").mkdir()
+        kept = self.folder / "other" / "keep.txt"
+        kept.write_bytes(b"kept")
+        digest = hashlib.sha256(b"kept").hexdigest()
+        path = self.folder / "d" / ".quicklook-demo"
+        for line in (f"{digest}  ../other/keep.txt", f"{digest}  {kept}", "nonsense", f"{digest}  keep.txt"):
+            self.done(*self.demo())
+            path.write_text(path.read_text() + line + "\n")
+            self.fails(64, "", *self.demo())
+            self.done(*self.demo("--force"))
+        vv = self.folder / "d" / "vv.npy"
+        (self.folder / "other" / "vv.npy").write_bytes(vv.read_bytes())
+        vv.unlink()
+        vv.symlink_to("../other/vv.npy")
+        self.fails(64, "vv.npy", *self.demo())
+        vv.unlink()
+        for put in (os.mkfifo, lambda where: os.symlink("/dev/zero", where), lambda where: os.symlink("../other/keep.txt", where), os.mkdir):
+            for where in (vv, path):
+                earlier = where.read_bytes() if where.exists() else None
+                where.unlink(missing_ok=True)
+                put(where)
+                self.fails(64, "the demo did not make", *self.demo(), timeout=30)
+                where.rmdir() if where.is_dir() else where.unlink()
+                if earlier is not None:
+                    where.write_bytes(earlier)
+        self.done(*self.demo())
+        self.assertEqual(kept.read_bytes(), b"kept")
+
+    def test_killed_while_names_are_given(self):
+        """Over an earlier demo or in a new folder: the next one finds its own files and goes on."""
+        for earlier in (None, "64", "9"):
+            for place in (1, 2, 9, 18):
+                subprocess.run(["rm", "-rf", self.folder / "d"], check=True)
+                if earlier:
+                    self.done("demo", "d", "--side", earlier)
+                killed = self.run_("demo", "d", "--side", "32", environment={"FAULT": f"rename:{place}:0", "FAULT_KILL": "1"})
+                self.assertEqual(killed.returncode, -9)
+                self.done("demo", "d", "--side", "32")
+                self.assertEqual(len(os.listdir(self.folder / "d")), 18)
+                subprocess.run(["sha256sum", "--check", "--quiet", ".quicklook-demo"], cwd=self.folder / "d", check=True)
+
     def test_places(self):
         self.done("demo", "a/b/c", "--side", "32")
         (self.folder / "file").write_bytes(b"x")
         self.fails(74, "file", "demo", "file", "--side", "32")
         self.fails(74, "file/d", "demo", "file/d", "--side", "32")
         self.fails(64, "4096", "demo", "new", "--side", "5000")
+        self.fails(74, "too long", "demo", "new/" + "n" * 300, "--side", "32")
         os.mkfifo(self.folder / "pipe")
         self.fails(74, "pipe", "demo", "pipe", "--side", "32")
 

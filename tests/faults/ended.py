@@ -46,6 +46,8 @@ class Ended(Case):
                 counts["both"] += 1
             if status == 0:
                 self.assertEqual(found, new)
+            elif how != signal.SIGKILL:
+                self.assertEqual(found, [EARLIER] * len(names))
             counts["left"] += len(self.left())
             if how != signal.SIGKILL:
                 self.assertEqual(self.left(), [], form)
@@ -82,13 +84,13 @@ class Ended(Case):
     def test_signals(self):
         """All outputs or none, and nothing beside them."""
         for form in ("npy", "tif", "html"):
-            for how in (signal.SIGINT, signal.SIGTERM, signal.SIGHUP, signal.SIGQUIT):
+            for how in (signal.SIGINT, signal.SIGTERM, signal.SIGHUP, signal.SIGQUIT, signal.SIGUSR1, signal.SIGALRM):
                 counts = self.at_random_times(form, how, TIMES // 8, int(how))
                 self.assertEqual(counts["both"], 0, (form, how, counts))
                 self.assertEqual(counts["left"], 0, (form, how, counts))
 
     def test_signal_while_names_are_given(self):
-        """A signal between two renames waits for the last of them."""
+        """A signal between two renames waits until the first is put back."""
         names, words = FORMATS["npy"], self.words("npy")
         self.done(*words)
         new = self.bytes_of(names)
@@ -101,6 +103,23 @@ class Ended(Case):
         self.assertEqual(self.bytes_of(names), [new[0], EARLIER, EARLIER])
         process.send_signal(signal.SIGTERM)
         self.assertEqual(process.wait(timeout=60), -signal.SIGTERM)
+        self.assertEqual(self.bytes_of(names), [EARLIER] * 3)
+        self.assertEqual(self.left(), [])
+
+    def test_signal_after_names_are_given(self):
+        """Once all outputs have their names the program has done its work."""
+        names, words = FORMATS["npy"], self.words("npy")
+        self.done(*words)
+        new = self.bytes_of(names)
+        self.put_earlier(names)
+        # The second names are removed last, slowly.
+        process = self.start(words, env=dict(os.environ, LD_PRELOAD=shim(), FAULT="unlink:1*:0", FAULT_WAIT="2"))
+        end = time.monotonic() + 30
+        while self.bytes_of(names) != new and time.monotonic() < end:
+            time.sleep(0.01)
+        time.sleep(0.5)
+        process.send_signal(signal.SIGTERM)
+        self.assertEqual(process.wait(timeout=60), 0)
         self.assertEqual(self.bytes_of(names), new)
         self.assertEqual(self.left(), [])
 
@@ -108,11 +127,14 @@ class Ended(Case):
         """As nohup has it."""
         words = self.words("npy")
         seconds = self.took(words)
-        for part in range(1, 8):
+        living = 0
+        for part in range(1, 12):
             process = self.start(words, preexec_fn=lambda: signal.signal(signal.SIGHUP, signal.SIG_IGN))
-            time.sleep(part * seconds / 8)
+            time.sleep(part * seconds / 16)
+            living += process.poll() is None
             process.send_signal(signal.SIGHUP)
             self.assertEqual(process.wait(timeout=60), 0)
+        self.assertGreater(living, 3)
 
     def test_a_living_run_keeps_its_part_files(self):
         """A run for the same output takes no part file from one that still writes."""
@@ -129,18 +151,19 @@ class Ended(Case):
         self.assertNotIn(None, self.bytes_of(names))
 
     def test_several_at_once(self):
-        """Runs of different results on one output, with process numbers and all: the file is always one of them, whole."""
-        results = []
+        """Runs of different results on the same outputs: each file is always one of them, whole, and in the end all are of one run."""
+        names, results = FORMATS["npy"], []
         for strategy in ("default", "robust", "equalized", "tamed"):
-            words = ["picture", "db1.npy", "marks1.npy", "db2.npy", "marks2.npy", "--strategy", strategy, "--out", "o.npy"]
+            words = [*self.words("npy"), "--strategy", strategy]
             self.done(*words)
-            results.append((words, (self.folder / "o.npy").read_bytes()))
-        self.assertGreaterEqual(len({whole for _, whole in results}), 3)
-        for _ in range(20):
+            results.append((words, self.bytes_of(names)))
+        self.assertGreaterEqual(len({whole[0] for _, whole in results}), 3)
+        for _ in range(max(20, TIMES // 4)):
             running = [self.start(words) for words, _ in results for _ in range(2)]
             while any(process.poll() is None for process in running):
-                self.assertIn((self.folder / "o.npy").read_bytes(), [whole for _, whole in results])
+                self.assertIn((self.folder / names[0]).read_bytes(), [whole[0] for _, whole in results])
             self.assertEqual([process.returncode for process in running], [0] * len(running))
+            self.assertIn(self.bytes_of(names), [whole for _, whole in results])
             self.assertEqual(self.left(), [])
 
     def test_gdals_process_ends_with_the_program(self):

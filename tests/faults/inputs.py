@@ -2,12 +2,27 @@
 import io
 import os
 import resource
+import signal
 import subprocess
+import sys
 import time
 
 import numpy
 
 from faults.common import EARLIER, FORMATS, PROGRAM, Case, shim
+
+# A program that takes a raster to write and answers that it made some files.
+FAKE = """#!{python}
+import struct, sys
+def number(): return struct.unpack("<I", sys.stdin.buffer.read(4))[0]
+[sys.stdin.buffer.read(number()) for _ in range(number())]
+ended = 0
+while ended < 2:
+    ended += not sys.stdin.buffer.read(number())
+words = ["ok"] + [word for file in {files} for word in ("file", file)]
+sys.stdout.buffer.write(struct.pack("<I", len(words)) + b"".join(struct.pack("<I", len(word)) + word.encode() for word in words))
+sys.stdout.buffer.write((struct.pack("<I", 4) + b"TIFF" + struct.pack("<I", 0)) * len({files}))
+"""
 
 
 class Inputs(Case):
@@ -73,7 +88,8 @@ class Inputs(Case):
                     time.sleep(0.4)
                     os.truncate(self.folder / name, keep)
                     _, told = process.communicate(timeout=60)
-                    self.assertIn(process.returncode, (74,), (name, mapped, keep, told))
+                    self.assertEqual(process.returncode, 74, (name, mapped, keep, told))
+                    self.assertIn(b"shortened" if mapped and b"shortened" in told else name.encode(), told)
                     self.assertEqual(self.bytes_of(names), [EARLIER] * 3)
                     self.assertEqual(self.left(), [])
                     (self.folder / name).write_bytes(bytes_)
@@ -100,6 +116,30 @@ class Inputs(Case):
                 self.assertIn(b"changed while it was read", told)
                 self.assertEqual(self.bytes_of(FORMATS[form]), [EARLIER] * 3)
                 self.assertEqual(self.left(), [])
+
+    def test_mapped_and_shortened_under_a_parent_that_blocks_the_signal(self):
+        bytes_ = (self.folder / "db1.npy").read_bytes()
+        environment = dict(os.environ, LD_PRELOAD=shim(), FAULT="open:1*:0", FAULT_WAIT="0.15")
+        process = subprocess.Popen([PROGRAM, *self.words("npy"), "--map"], cwd=self.folder, stderr=subprocess.PIPE, env=environment,
+                                   preexec_fn=lambda: signal.pthread_sigmask(signal.SIG_BLOCK, [signal.SIGBUS]))
+        time.sleep(0.4)
+        os.truncate(self.folder / "db1.npy", 5000)
+        _, told = process.communicate(timeout=60)
+        self.assertEqual(process.returncode, 74, told)
+        (self.folder / "db1.npy").write_bytes(bytes_)
+
+    def test_other_programs_in_place_of_gdals(self):
+        """Ended at once, silent without reading, echoing, flooding: the file's trouble."""
+        for program in ("/bin/true", "/bin/false", "/bin/cat", "/usr/bin/yes", "/nowhere", "", "/dev/null", str(self.folder)):
+            self.put_earlier(FORMATS["tif"])
+            self.fails(74, "", *self.words("tif"), environment={"QUICKLOOK_GDAL": program}, timeout=60)
+        # One that says that it made a file, and none or two of one name.
+        script = self.folder / "fake"
+        for files in ([], [""] * 2, ["", "/../x"], [".aux.xml"]):
+            script.write_text(FAKE.format(python=sys.executable, files=files))
+            script.chmod(0o755)
+            self.put_earlier(FORMATS["tif"])
+            self.fails(74, "GDAL made", "picture", "db1.npy", "marks1.npy", "db2.npy", "marks2.npy", "--out", "o.tif", environment={"QUICKLOOK_GDAL": str(script)}, timeout=60)
 
     def test_mapped(self):
         plain = self.done("stats", "db1.npy", "marks1.npy").stdout

@@ -1,4 +1,5 @@
 """Limits: memory, sizes of files, open files, threads and processes, processor time."""
+import random
 import resource
 import signal
 
@@ -18,14 +19,15 @@ class Limits(Case):
             names, words = FORMATS[form], self.words(form)
             self.done(*words)
             new = self.bytes_of(names)
-            seen = set()
-            for megabytes in (*range(12, 60, 4), *range(60, 300, 12), *range(300, 900, 60)):
+            seen, dice = set(), random.Random(form)
+            steps = (*range(12, 60, 4), *range(60, 300, 12), *range(300, 900, 60), *(dice.uniform(10, 150) for _ in range(40)))
+            for what, megabytes in ((what, megabytes) for what in (resource.RLIMIT_AS, resource.RLIMIT_DATA) for megabytes in steps):
                 self.put_earlier(names)
-                result = self.run_(*words, preexec_fn=limit(resource.RLIMIT_AS, megabytes << 20))
+                result = self.run_(*words, preexec_fn=limit(what, int(megabytes * (1 << 20))))
                 told = result.stderr.decode(errors="replace")
                 if "error while loading shared libraries" in told or b"cannot allocate" in result.stderr and result.returncode == 127:
                     continue    # the system could not start the program
-                case = (form, megabytes, result.returncode, told)
+                case = (form, what, megabytes, result.returncode, told)
                 self.assertIn(result.returncode, (0, 71, 74), case)
                 self.assertNotIn("internal error", told, case)
                 if result.returncode == 71:
@@ -46,7 +48,8 @@ class Limits(Case):
                 self.fails(74, "", *self.words(form), preexec_fn=limit(resource.RLIMIT_FSIZE, most))
 
     def test_open_files(self):
-        for most in range(3, 24):
+        seen = set()
+        for most in range(3, 40):
             for form in ("npy", "tif"):
                 self.put_earlier(FORMATS[form])
                 before = self.snapshot()
@@ -54,9 +57,11 @@ class Limits(Case):
                 if result.returncode == 127:
                     continue
                 self.assertIn(result.returncode, (0, 74), (most, form, result.stderr))
+                seen.add((form, result.returncode))
                 if result.returncode:
                     self.assertEqual(self.snapshot(), before)
                 self.assertEqual(self.left(), [])
+        self.assertEqual(seen, {("npy", 0), ("npy", 74), ("tif", 0), ("tif", 74)})
 
     def test_threads(self):
         """Without threads the same bytes."""
@@ -67,6 +72,12 @@ class Limits(Case):
             self.clear(names)
             self.done(*words, environment={"FAULT": "thread:1*:11"})
             self.assertEqual(self.bytes_of(names), new)
+
+    def test_stack(self):
+        """The program brings its own."""
+        for kilobytes in (16, 64, 1024):
+            self.done(*self.words("npy"), preexec_fn=limit(resource.RLIMIT_STACK, kilobytes << 10))
+        self.done(*self.words("npy"), environment={"RUST_MIN_STACK": "1", "RAYON_NUM_THREADS": "100000"})
 
     def test_processes(self):
         self.put_earlier(FORMATS["tif"])

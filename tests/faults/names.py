@@ -3,9 +3,11 @@ import os
 import pathlib
 import stat
 import subprocess
+import time
 import unittest
+import zipfile
 
-from faults.common import EARLIER, PROGRAM, Case
+from faults.common import EARLIER, PROGRAM, Case, shim
 
 SCENE = ["db1.npy", "marks1.npy", "db2.npy", "marks2.npy"]
 
@@ -51,6 +53,35 @@ class Names(Case):
     def test_nothing_is_read_before_names_are_judged(self):
         self.fails(64, "one file", "picture", "no.npy", "no.npy", "no.npy", "no.npy", "--out", "a.png", "--grey1", "a.png")
         self.fails(74, "nowhere", "picture", "no.npy", "no.npy", "no.npy", "no.npy", "--out", "nowhere/a.png")
+
+    def test_files_beside_that_are_inputs(self):
+        """Not only the outputs themselves: what is written beside them, and files within GDAL's own names."""
+        self.fails(64, "one of the inputs", "picture", "/vsisubfile/0,scene.tif", "--marks", "auto", "--out", "scene.tif")
+        self.fails(64, "one of the inputs", "picture", "GTIFF_DIR:1:scene.tif", "--marks", "auto", "--out", "scene.tif")
+        with zipfile.ZipFile(self.folder / "s.zip", "w") as archive:
+            archive.write(self.folder / "scene.tif", "scene.tif")
+        os.link(self.folder / "s.zip", self.folder / "z.tif")
+        self.fails(64, "one of the inputs", "picture", "/vsizip/s.zip/scene.tif", "--marks", "auto", "--out", "z.tif")
+        # A PNG's own world file, and an .aux.xml that leads to the input's.
+        self.done("picture", "scene.tif", "--marks", "auto", "--out", "x.png", "--world", "--grey1", "X.png")
+        os.rename(self.folder / "X.png", self.folder / "x.PNG")
+        self.fails(64, "one of the inputs", "pad", "x.PNG", "--out", "x.png", "--world")
+        (self.folder / "scene.tif.aux.xml").write_text("<PAMDataset></PAMDataset>")
+        os.symlink("scene.tif.aux.xml", self.folder / "o.tif.aux.xml")
+        self.fails(64, "one of the inputs", "picture", "scene.tif", "--marks", "auto", "--out", "o.tif")
+
+    def test_nothing_is_worked_for_an_output_that_is_an_input(self):
+        told = self.fails(64, "one of the inputs", "picture", "scene.tif", "--marks", "auto", "--out", "scene.tif")
+        self.assertNotIn("invalid", told)
+
+    @unittest.skipUnless(os.geteuid() == 0, "only root mounts")
+    def test_one_folder_under_two_names(self):
+        for name in ("a", "b"):
+            (self.folder / name).mkdir()
+        if subprocess.run(["mount", "--bind", self.folder / "a", self.folder / "b"], capture_output=True).returncode:
+            self.skipTest("nothing can be mounted here")
+        self.addCleanup(subprocess.run, ["umount", self.folder / "b"], check=True)
+        self.fails(64, "one file", *self.picture("--out", "a/x.npy", "--grey1", "b/x.npy"))
 
     def test_output_is_input(self):
         os.link(self.folder / "db1.npy", self.folder / "again.npy")
@@ -132,7 +163,7 @@ class Names(Case):
         self.done(*self.picture("--out", "a.png", "--force"), preexec_fn=other)
         there = (self.folder / "a.png").stat()
         self.assertEqual((there.st_uid, there.st_gid, stat.S_IMODE(there.st_mode)), (1234, 1234, 0o744))
-        # A sticky folder: another's file cannot be replaced, and that shows only when it is named.
+        # A sticky folder: another's file cannot be replaced.
         self.folder.chmod(0o1777)
         for name in ("a.png", "b.png"):
             self.clear([name])
@@ -173,6 +204,32 @@ class Names(Case):
             self.skipTest(f"no access lists here: {error}")
         self.done(*self.picture("--out", "a.png"))
         self.assertEqual(os.getxattr(path, "system.posix_acl_access"), list_)
+
+    def test_lists_of_the_folder(self):
+        """A folder's list for new files is not the list of a file that had none."""
+        entries = ((1, 7, 0xffffffff), (2, 6, 1234), (4, 7, 0xffffffff), (0x10, 7, 0xffffffff), (0x20, 5, 0xffffffff))
+        list_ = b"\x02\x00\x00\x00" + b"".join(tag.to_bytes(2, "little") + rights.to_bytes(2, "little") + who.to_bytes(4, "little") for tag, rights, who in entries)
+        self.put_earlier(["a.png"])
+        (self.folder / "a.png").chmod(0o640)
+        try:
+            os.setxattr(self.folder, "system.posix_acl_default", list_)
+        except OSError as error:
+            self.skipTest(f"no access lists here: {error}")
+        self.done(*self.picture("--out", "a.png"))
+        self.assertEqual(stat.S_IMODE((self.folder / "a.png").stat().st_mode), 0o640)
+        self.assertNotIn("system.posix_acl_access", os.listxattr(self.folder / "a.png"))
+
+    def test_earlier_file_goes_meanwhile(self):
+        """Then the output is a new file like any other."""
+        self.put_earlier(["a.npy"])
+        slow = dict(os.environ, LD_PRELOAD=shim(), FAULT="fsync:1:0", FAULT_WAIT="1")
+        process = subprocess.Popen([PROGRAM, *self.picture("--out", "a.npy")], cwd=self.folder, env=slow, preexec_fn=lambda: os.umask(0o027))
+        end = time.monotonic() + 30
+        while not self.left() and time.monotonic() < end:
+            time.sleep(0.01)
+        (self.folder / "a.npy").unlink()
+        self.assertEqual(process.wait(timeout=60), 0)
+        self.assertEqual(stat.S_IMODE((self.folder / "a.npy").stat().st_mode), 0o640)
 
     def test_hard_links(self):
         """Another name of the earlier file keeps the earlier bytes."""

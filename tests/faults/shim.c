@@ -21,9 +21,9 @@
 #include <unistd.h>
 #include <xmmintrin.h>
 
-enum call { OPEN, WRITE, READ, PREAD, FSYNC, RENAME, LINK, UNLINK, CHMOD, CHOWN, LOCK, RANDOM, THREAD, SPAWN, PIPE, MKDIR, CALLS };
+enum call { OPEN, WRITE, READ, PREAD, FSYNC, RENAME, LINK, UNLINK, CHMOD, CHOWN, LOCK, RANDOM, THREAD, SPAWN, PIPE, MKDIR, EXCHANGE, CALLS };
 static const char *const NAMES[CALLS] = { "open", "write", "read", "pread", "fsync", "rename", "link", "unlink", "fchmod", "fchown",
-                                          "flock", "getrandom", "thread", "spawn", "pipe", "mkdir" };
+                                          "flock", "getrandom", "thread", "spawn", "pipe", "mkdir", "exchange" };
 static atomic_int count[CALLS];
 static struct { int at, is_for_ever, number; } faults[CALLS];
 static int is_meant;
@@ -82,6 +82,7 @@ ssize_t read(int file, void *bytes, size_t len) { return is_due(READ) ? -1 : REA
 ssize_t pread64(int file, void *bytes, size_t len, off64_t from) { return is_due(PREAD) ? -1 : REAL(pread64)(file, bytes, len, from); }
 int fsync(int file) { return is_due(FSYNC) ? -1 : REAL(fsync)(file); }
 int rename(const char *from, const char *to) { return is_due(RENAME) ? -1 : REAL(rename)(from, to); }
+int renameat2(int a, const char *from, int b, const char *to, unsigned flags) { return is_due(EXCHANGE) ? -1 : REAL(renameat2)(a, from, b, to, flags); }
 int linkat(int a, const char *from, int b, const char *to, int flags) { return is_due(LINK) ? -1 : REAL(linkat)(a, from, b, to, flags); }
 int unlink(const char *path) { return is_due(UNLINK) ? -1 : REAL(unlink)(path); }
 int fchmod(int file, mode_t mode) { return is_due(CHMOD) ? -1 : REAL(fchmod)(file, mode); }

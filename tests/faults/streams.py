@@ -24,10 +24,13 @@ class Streams(Case):
         self.assertEqual(self.run_to(["picture", "scene.tif", "--marks", "auto", "--out", "o.tif"], "/dev/full", "/dev/full"), 0)
 
     def test_closed(self):
+        """A result that has nowhere to go is 74; nothing else is missed."""
         for words in self.COMMANDS:
-            for closed in (">&-", "2>&-", ">&- 2>&-", "<&- >&- 2>&-", "<&-"):
+            for closed in (">&-", "2>&-", ">&- 2>&-", "<&- >&- 2>&-", "<&-", "1</dev/null", "1<.", "2</dev/null"):
                 done = subprocess.run(["sh", "-c", f'"$0" "$@" {closed}', PROGRAM, *words], cwd=self.folder, capture_output=True, timeout=60)
-                self.assertEqual(done.returncode, 0, (words, closed, done.stderr))
+                is_lost = ">&-" in closed.split() or closed.startswith("1<")
+                self.assertEqual(done.returncode, 74 if is_lost else 0, (words, closed, done.stderr))
+                self.assertEqual((self.folder / "d").exists(), words[0] == "demo" and not is_lost)
                 subprocess.run(["rm", "-rf", self.folder / "d"], check=True)
         for form in ("npy", "tif"):
             done = subprocess.run(["sh", "-c", '"$0" "$@" <&- >&- 2>&-', PROGRAM, *self.words(form)], cwd=self.folder, timeout=60)

@@ -2,8 +2,11 @@
 import os
 import random
 import re
+import stat
+import subprocess
+import time
 
-from faults.common import EARLIER, FORMATS, Case
+from faults.common import EARLIER, FORMATS, PROGRAM, Case, shim
 
 ERRORS = {"open": "EMFILE", "write": "ENOSPC", "read": "EIO", "pread": "EIO", "fsync": "EIO", "rename": "EPERM", "link": "EPERM", "unlink": "EPERM",
           "fchmod": "EPERM", "fchown": "EPERM", "flock": "ENOLCK", "getrandom": "ENOSYS", "thread": "EAGAIN", "spawn": "EAGAIN", "pipe": "EMFILE"}
@@ -84,23 +87,62 @@ class Together(Case):
             (self.folder / names[0]).chmod(0o640)
             self.fails(74, names[place - 1], *self.words("npy"), fault=("rename", place, "EPERM"))
 
-    def test_no_way_back(self):
-        """Where no name can be given any more, not even the earlier ones, no earlier file is lost: the message tells where it is."""
+    def test_file_systems_without_second_names(self):
+        """The two files change places, or the earlier one is copied: all outputs or none there too."""
         names = FORMATS["npy"]
-        for function in ("rename", "link"):
+        self.done(*self.words("npy"))
+        new = self.bytes_of(names)
+        for without in ("link:1*:1", "link:1*:1,exchange:1*:22"):
+            for mode in (0o640, 0o600):
+                self.put_earlier(names)
+                (self.folder / names[0]).chmod(mode)
+                for place in (1, 2, 3):
+                    # Where an exchange fails the file is copied and renamed, which fails too.
+                    fault = f"exchange:{place}*:22,rename:1:1" if without == "link:1*:1" else f"exchange:1*:22,rename:{place}:1"
+                    self.fails(74, names[place - 1], *self.words("npy"), environment={"FAULT": f"link:1*:1,{fault}"})
+                self.done(*self.words("npy"), environment={"FAULT": without})
+                self.assertEqual(self.bytes_of(names), new)
+                self.assertEqual(stat.S_IMODE((self.folder / names[0]).stat().st_mode), mode)
+                self.assertEqual(self.left(), [])
+
+    def test_no_way_back(self):
+        """Where no name can be given any more, not even the earlier ones, no earlier file is lost: the message tells where it is, and no later
+        run takes it for a left one."""
+        names = FORMATS["npy"]
+        for more in ("", ",link:4*:1"):
             self.put_earlier(names)
             (self.folder / names[0]).write_bytes(b"the first one")
-            result = self.run_(*self.words("npy"), environment={"FAULT": "rename:2*:1" + (",link:2*:1" if function == "link" else "")})
+            result = self.run_(*self.words("npy"), environment={"FAULT": "rename:2*:1" + more})
             self.assertEqual(result.returncode, 74, result.stderr)
             [told] = re.findall(r"the earlier one is (.*)", result.stderr.decode())
             self.assertEqual((self.folder / told).read_bytes(), b"the first one")
             self.assertEqual(self.left(), [os.path.basename(told)])
             self.assertEqual(self.bytes_of(names[1:]), [EARLIER] * 2)
-            if function == "rename":
-                # No later run takes it for a left one.
-                self.done(*self.words("npy"))
-                self.assertEqual((self.folder / told).read_bytes(), b"the first one")
+            self.done(*self.words("npy"))
+            self.assertEqual((self.folder / told).read_bytes(), b"the first one")
             (self.folder / told).unlink()
+
+    def test_replaced_while_names_are_given(self):
+        """What another program puts into an output's place meanwhile is not lost."""
+        names = FORMATS["npy"]
+        for is_there in (True, False):
+            self.clear(names)
+            if is_there:
+                self.put_earlier(names)
+            slow = dict(os.environ, LD_PRELOAD=shim(), FAULT="rename:1:0", FAULT_WAIT="1.5")
+            process = subprocess.Popen([PROGRAM, *self.words("npy")], cwd=self.folder, stderr=subprocess.PIPE, env=slow)
+            end = time.monotonic() + 30
+            while len(self.left()) < (6 if is_there else 3) and time.monotonic() < end:
+                time.sleep(0.01)
+            time.sleep(0.5)
+            (self.folder / "other").write_bytes(b"of another program")
+            os.replace(self.folder / "other", self.folder / names[1])
+            _, told = process.communicate(timeout=60)
+            self.assertEqual(process.returncode, 74, told)
+            self.assertIn(b"another file took its name", told)
+            before = EARLIER if is_there else None
+            self.assertEqual(self.bytes_of(names), [before, b"of another program", before])
+            self.assertEqual(self.left(), [])
 
     def test_no_free_name(self):
         """A part file is a new file: a link or a file of its name is neither followed nor overwritten."""

@@ -25,24 +25,28 @@ pub enum Bytes {
 pub struct Stamp {
     file: (u64, u64),
     pub len: u64,
-    changed: (i64, i64),
+    /// When its bytes changed, and when anything of it did.
+    changed: [(i64, i64); 2],
 }
 
 impl From<&Metadata> for Stamp {
     fn from(there: &Metadata) -> Self {
-        Stamp { file: (there.dev(), there.ino()), len: there.len(), changed: (there.mtime(), there.mtime_nsec()) }
+        Stamp { file: (there.dev(), there.ino()), len: there.len(), changed: [(there.mtime(), there.mtime_nsec()), (there.ctime(), there.ctime_nsec())] }
     }
 }
 
+/// Opens a plain file to read, without waiting for anybody.
+pub fn open_plain(path: &Path) -> io::Result<(File, Metadata)> {
+    let file = OpenOptions::new().read(true).custom_flags(libc::O_NONBLOCK).open(path)?;
+    let there = file.metadata()?;
+    if there.is_file() { Ok((file, there)) } else { Err(io::Error::new(io::ErrorKind::Other, "not a plain file")) }
+}
+
 impl Bytes {
-    /// Opens a plain file, without waiting for anybody. With `is_mapped` it is mapped: another program that shortens it ends this one.
+    /// Opens a plain file. With `is_mapped` it is mapped: another program that shortens it ends this one.
     pub fn open(path: &Path, is_mapped: bool) -> Outcome<(Bytes, Stamp)> {
         let bad = |e: io::Error| Trouble::file(path, e);
-        let file = OpenOptions::new().read(true).custom_flags(libc::O_NONBLOCK).open(path).map_err(bad)?;
-        let there = file.metadata().map_err(bad)?;
-        if !there.is_file() {
-            return Err(Trouble::file(path, "not a plain file"));
-        }
+        let (file, there) = open_plain(path).map_err(bad)?;
         let stamp = Stamp::from(&there);
         if is_mapped && there.len() > 0 {
             crate::signals::expect_shortened();

@@ -19,8 +19,12 @@ use crate::trouble::{Outcome, Trouble};
 use crate::view;
 use engine::{AutoscaleStrategy, PictureOut, PolarizationOperation, SyntheticRgbMode, Window};
 use std::ffi::{OsStr, OsString};
+use std::fs::File;
 use std::io::Write;
+use std::mem::ManuallyDrop;
+use std::os::unix::io::FromRawFd;
 use std::path::{Path, PathBuf};
+use std::sync::atomic::{AtomicBool, Ordering::SeqCst};
 use wire::{Georeference, Part};
 
 pub fn run(command: Command) -> Outcome<()> {
@@ -51,7 +55,8 @@ struct Single {
 }
 
 impl Single {
-    fn open(name: &OsStr, of: PartOf, role: Role, judge_sides: fn(&Source, Part) -> Outcome<()>) -> Outcome<Single> {
+    /// The raster must not be one of the outputs.
+    fn open(name: &OsStr, of: PartOf, role: Role, judge_sides: fn(&Source, Part) -> Outcome<()>, outs: &[PathBuf]) -> Outcome<Single> {
         let PartOf { crop, map } = of;
         let source = Source::open(&Name::new(name, map), 1)?;
         let part = source.part(crop)?;
@@ -60,12 +65,14 @@ impl Single {
         source.notes.iter().for_each(|text| note(&format!("{}: GDAL says: {text}", source.shown)));
         let georeference = source.georeference.moved(part.row as f64, part.col as f64);
         let origin = Origin { inputs: source.inputs.clone(), crop };
+        outputs::spare(outs, origin.files())?;
         Ok(Single { source, part, georeference, origin })
     }
 
     /// Two rasters of the same sides; the first one's georeference is the result's.
-    fn open_two(names: [&OsStr; 2], of: PartOf, role: Role) -> Outcome<[Single; 2]> {
-        let (a, b) = threads::join(|| Single::open(names[0], of, role, judge_length), || Single::open(names[1], of, role, judge_length));
+    fn open_two(names: [&OsStr; 2], of: PartOf, role: Role, outs: &[PathBuf]) -> Outcome<[Single; 2]> {
+        let open = |name: &OsStr| Single::open(name, of, role, judge_length, outs);
+        let (a, b) = threads::join(|| open(names[0]), || open(names[1]));
         let (mut a, mut b) = (a?, b?);
         same_sides((&a.source, a.part), (&b.source, b.part))?;
         tell_elsewhere(&a.source, &b.source);
@@ -97,7 +104,6 @@ impl Single {
     }
 
     fn write(&self, command: &str, out: &Path, picture: Picture, marks: Option<&[u8]>, form: Form) -> Outcome<()> {
-        outputs::spare(&[out], self.origin.files())?;
         let origin = origin::items(command, &self.origin)?;
         let Part { rows, cols, .. } = self.part;
         let sheet = Sheet { rows, cols, picture, marks, georeference: &self.georeference, origin: &origin, form };
@@ -135,8 +141,8 @@ pub fn room<T: Plain>(rows: usize, cols: usize, each: usize) -> Outcome<Vec<T>> 
 }
 
 fn marks(intensities: &OsStr, part: PartOf, out: &Path, form: Form) -> Outcome<()> {
-    sheet::plan(&[out], false, form)?;
-    let single = Single::open(intensities, part, Role::Intensities, judge_length)?;
+    let outs = sheet::plan(&[out], false, form)?;
+    let single = Single::open(intensities, part, Role::Intensities, judge_length, &outs)?;
     let list = step("reading", || single.f32s())?;
     let mut marks = memory::zeros(list.elements().len(), "marks")?;
     step("marks", || engine::marks(list.elements(), &mut marks))?;
@@ -159,7 +165,7 @@ fn read(files: &[OsString], reading: &Reading, outs: [Option<&PathBuf>; 2], forc
         return Err(Trouble::Usage(format!("{}: name an output that ends in .npy", path.display())));
     }
     let form = Form { cog: false, world: false, force };
-    sheet::plan(&paths, true, form)?;
+    let outs_all = sheet::plan(&paths, true, form)?;
     let write = |path: Option<&PathBuf>, rows: usize, cols: usize, picture: Picture| match path {
         Some(path) => sheet::write(path, &Sheet { rows, cols, picture, marks: None, georeference: NONE, origin: NOTHING, form }),
         None => Ok(Parts::default()),
@@ -169,15 +175,13 @@ fn read(files: &[OsString], reading: &Reading, outs: [Option<&PathBuf>; 2], forc
             return Err(Trouble::Usage("marks are needed for --marks-out: name a marks file, or give --marks auto".into()));
         }
         let of = PartOf { crop: reading.crop, map: reading.map };
-        let single = Single::open(&files[0], of, Role::Decibels { as_decibels: reading.as_decibels }, judge_limit)?;
-        outputs::spare(&paths, single.origin.files())?;
+        let single = Single::open(&files[0], of, Role::Decibels { as_decibels: reading.as_decibels }, judge_limit, &outs_all)?;
         let (db, scaled) = step("reading", || scene::decibels(&single.source, single.part, reading.scaling))?;
         scaled.iter().for_each(|text| note(text));
         return finish(write(outs[0], single.part.rows, single.part.cols, Picture::F64(db.elements()))?, &single.origin);
     }
-    let scene = step("reading", || Scene::read(files, Wanted::One, reading))?;
+    let scene = step("reading", || Scene::read(files, Wanted::One, reading, &outs_all))?;
     explain::first_mark(&scene).map_or(Ok(()), Err)?;
-    outputs::spare(&paths, scene.origin.files())?;
     let lists = scene.bands[0].band();
     let db = write(outs[0], scene.rows, scene.cols, Picture::F64(lists.db));
     let marks = write(outs[1], scene.rows, scene.cols, Picture::Marks(lists.valid_mask));
@@ -200,7 +204,7 @@ fn json_head(scene: &Scene) -> Json {
 }
 
 fn stats(files: &BandFiles, as_json: bool) -> Outcome<()> {
-    let scene = step("reading", || Scene::read(&files.files(), Wanted::One, &files.reading))?;
+    let scene = step("reading", || Scene::read(&files.files(), Wanted::One, &files.reading, &[]))?;
     let answer = step("statistics", || engine::statistics(scene.rows, scene.cols, scene.bands[0].band()));
     let statistics = answer.map_err(|refusal| explain::refused(refusal, &scene, AutoscaleStrategy::Default))?;
     scene.origin.unchanged()?;
@@ -218,7 +222,7 @@ fn stats(files: &BandFiles, as_json: bool) -> Outcome<()> {
 }
 
 fn window(files: &BandFiles, strategy: AutoscaleStrategy, as_json: bool) -> Outcome<()> {
-    let scene = step("reading", || Scene::read(&files.files(), Wanted::One, &files.reading))?;
+    let scene = step("reading", || Scene::read(&files.files(), Wanted::One, &files.reading, &[]))?;
     let answer = step("window", || engine::window(strategy, scene.rows, scene.cols, scene.bands[0].band()));
     let window = answer.map_err(|refusal| explain::refused(refusal, &scene, strategy))?;
     scene.origin.unchanged()?;
@@ -241,17 +245,33 @@ fn window(files: &BandFiles, strategy: AutoscaleStrategy, as_json: bool) -> Outc
 
 /// To standard output; a reader that closes it early is no trouble.
 pub fn print(text: &str) -> Outcome<()> {
-    let mut out = std::io::stdout();
-    match out.write_all(text.as_bytes()).and_then(|()| out.flush()) {
-        Err(e) if e.kind() != std::io::ErrorKind::BrokenPipe => Err(Trouble::File(format!("standard output: {e}"))),
+    let bad = |e: &dyn std::fmt::Display| Err(Trouble::named("standard output", e));
+    if IS_CLOSED.load(SeqCst) {
+        return bad(&"it is closed");
+    }
+    // Rust's own takes a result for written that was not, where the descriptor is not for writing.
+    let mut out = ManuallyDrop::new(unsafe { File::from_raw_fd(libc::STDOUT_FILENO) });
+    match out.write_all(text.as_bytes()) {
+        Err(e) if e.kind() != std::io::ErrorKind::BrokenPipe => bad(&e),
         _ => Ok(()),
     }
 }
 
+/// Whether whoever started the program gave it no standard output: asked before Rust puts something in its place.
+static IS_CLOSED: AtomicBool = AtomicBool::new(false);
+
+#[used]
+#[link_section = ".init_array"]
+static ASK: extern "C" fn() = {
+    extern "C" fn ask() {
+        IS_CLOSED.store(unsafe { libc::fcntl(libc::STDOUT_FILENO, libc::F_GETFD) } == -1, SeqCst);
+    }
+    ask
+};
+
 fn grey(files: &BandFiles, strategy: AutoscaleStrategy, depth: Bits, out: &Path, form: Form) -> Outcome<()> {
-    sheet::plan(&[out], false, form)?;
-    let scene = step("reading", || Scene::read(&files.files(), Wanted::One, &files.reading))?;
-    outputs::spare(&[out], scene.origin.files())?;
+    let outs = sheet::plan(&[out], false, form)?;
+    let scene = step("reading", || Scene::read(&files.files(), Wanted::One, &files.reading, &outs))?;
     let (rows, cols) = (scene.rows, scene.cols);
     let band = scene.bands[0].band();
     let mut work = vec![0f64; strategy.work_len()];
@@ -282,9 +302,8 @@ fn grey(files: &BandFiles, strategy: AutoscaleStrategy, depth: Bits, out: &Path,
 /// The outputs are the colours, the grey of band 1 and the grey of band 2.
 fn picture(files: &SceneFiles, strategy: AutoscaleStrategy, mode: SyntheticRgbMode, outs: [Option<PathBuf>; 3], form: Form) -> Outcome<()> {
     let paths: Vec<&Path> = outs.iter().flatten().map(PathBuf::as_path).collect();
-    sheet::plan(&paths, false, form)?;
-    let scene = step("reading", || Scene::read(&files.files, Wanted::Two, &files.reading))?;
-    outputs::spare(&paths, scene.origin.files())?;
+    let outs_all = sheet::plan(&paths, false, form)?;
+    let scene = step("reading", || Scene::read(&files.files, Wanted::Two, &files.reading, &outs_all))?;
     let (rows, cols) = (scene.rows, scene.cols);
     let mut grey1 = room::<u8>(rows, cols, 1)?;
     let mut grey2 = room::<u8>(rows, cols, 1)?;
@@ -320,8 +339,8 @@ fn picture(files: &SceneFiles, strategy: AutoscaleStrategy, mode: SyntheticRgbMo
 }
 
 fn compose(names: [&OsStr; 2], part: PartOf, strategy: AutoscaleStrategy, mode: SyntheticRgbMode, out: &Path, form: Form) -> Outcome<()> {
-    sheet::plan(&[out], false, form)?;
-    let [one, two] = Single::open_two(names, part, Role::Greys)?;
+    let outs = sheet::plan(&[out], false, form)?;
+    let [one, two] = Single::open_two(names, part, Role::Greys, &outs)?;
     let (band1, band2) = step("reading", || threads::join(|| one.u8s(), || two.u8s()));
     let (band1, band2) = (band1?, band2?);
     let mut rgb = memory::zeros(3 * band1.elements().len(), "a picture")?;
@@ -330,8 +349,8 @@ fn compose(names: [&OsStr; 2], part: PartOf, strategy: AutoscaleStrategy, mode: 
 }
 
 fn stretch(grey: &OsStr, part: PartOf, out: &Path, form: Form) -> Outcome<()> {
-    sheet::plan(&[out], false, form)?;
-    let single = Single::open(grey, part, Role::Greys, judge_length)?;
+    let outs = sheet::plan(&[out], false, form)?;
+    let single = Single::open(grey, part, Role::Greys, judge_length, &outs)?;
     let data = step("reading", || single.u16s())?;
     let mut bytes = memory::zeros(data.elements().len(), "a picture")?;
     step("stretching", || engine::stretch(data.elements(), &mut bytes))?;
@@ -339,8 +358,8 @@ fn stretch(grey: &OsStr, part: PartOf, out: &Path, form: Form) -> Outcome<()> {
 }
 
 fn pad(grey: &OsStr, part: PartOf, out: &Path, form: Form) -> Outcome<()> {
-    sheet::plan(&[out], false, form)?;
-    let mut single = Single::open(grey, part, Role::Greys, judge_limit)?;
+    let outs = sheet::plan(&[out], false, form)?;
+    let mut single = Single::open(grey, part, Role::Greys, judge_limit, &outs)?;
     let Part { rows, cols, .. } = single.part;
     let side = rows.max(cols);
     let wide = single.source.kind() == Some(Kind::U16);
@@ -369,8 +388,8 @@ fn pad(grey: &OsStr, part: PartOf, out: &Path, form: Form) -> Outcome<()> {
 }
 
 fn operate(operation: PolarizationOperation, names: [&OsStr; 2], part: PartOf, out: &Path, form: Form) -> Outcome<()> {
-    sheet::plan(&[out], true, form)?;
-    let [a, b] = Single::open_two(names, part, Role::Numbers)?;
+    let outs = sheet::plan(&[out], true, form)?;
+    let [a, b] = Single::open_two(names, part, Role::Numbers, &outs)?;
     let (of_a, of_b) = step("reading", || threads::join(|| a.f32s(), || b.f32s()));
     let (of_a, of_b) = (of_a?, of_b?);
     let mut result = memory::zeros(of_a.elements().len(), "a raster")?;

@@ -2,18 +2,16 @@
 
 use crate::arguments::Form;
 use crate::commands::print;
+use crate::folder::Folder;
 use crate::memory;
-use crate::origin::{self, checksum, Origin};
-use crate::parts::{is_part, Parts};
+use crate::origin::{self, Origin};
+use crate::parts::Parts;
 use crate::progress::step;
 use crate::sheet::{self, Picture, Sheet};
 use crate::trouble::{Outcome, Trouble};
 use engine::{AutoscaleStrategy, Band, PictureOut, SyntheticRgbMode, Window};
-use std::collections::BTreeMap;
 use std::fmt::Write as _;
-use std::fs;
-use std::io::{self, Write as _};
-use std::path::{Path, PathBuf};
+use std::path::Path;
 use wire::Georeference;
 
 /// Numbers that look random and are the same in every run.
@@ -71,79 +69,12 @@ fn decibels(intensities: &[f32]) -> Vec<f64> {
     intensities.iter().map(|&v| 10.0 * f64::from(v).max(1e-10).log10()).collect()
 }
 
-/// What the demo made in a folder: names and checksums, in the words of sha256sum.
-const LIST: &str = ".quicklook-demo";
-
-/// The folder of a demo.
-struct Folder {
-    path: PathBuf,
-    /// Folders that the demo made, and takes away again if it comes to nothing.
-    made: Vec<PathBuf>,
-    /// What an earlier demo made there.
-    earlier: BTreeMap<String, String>,
-    force: bool,
-}
-
-impl Folder {
-    /// Takes a folder that holds nothing which the demo did not make, or makes it.
-    fn take(path: &Path, force: bool) -> Outcome<Folder> {
-        let bad = |e: io::Error| Trouble::file(path, e);
-        let missing: Vec<PathBuf> = path.ancestors().take_while(|folder| !folder.as_os_str().is_empty() && !folder.exists()).map(Path::to_path_buf).collect();
-        fs::create_dir_all(path).map_err(bad)?;
-        let mut folder = Folder { path: path.to_path_buf(), made: missing, earlier: BTreeMap::new(), force };
-        let list = fs::read_to_string(path.join(LIST)).unwrap_or_default();
-        folder.earlier = list.lines().filter_map(|line| line.split_once("  ")).map(|(digest, name)| (name.to_string(), digest.to_string())).collect();
-        for entry in fs::read_dir(path).map_err(bad)? {
-            let name = entry.map_err(bad)?.file_name();
-            let is_own = name == LIST || is_part(&name) || name.to_str().is_some_and(|name| folder.has_made(name));
-            if !is_own && !force {
-                return Err(Trouble::Usage(format!(
-                    "{}: it holds {}, which the demo did not make; name another folder, or give --force to replace what has the names of the \
-                     demo's files",
-                    path.display(),
-                    name.to_string_lossy()
-                )));
-            }
-        }
-        Ok(folder)
-    }
-
-    /// Whether an earlier demo made the file, as it stands there now.
-    fn has_made(&self, name: &str) -> bool {
-        self.earlier.get(name).is_some_and(|digest| checksum(&self.path.join(name)).is_ok_and(|found| found == *digest))
-    }
-
-    /// A result of the demo, whose origin is the program alone.
-    fn save(&self, name: &str, side: usize, picture: Picture) -> Outcome<Parts> {
-        let origin = origin::items("demo", &Origin::default())?;
-        let form = Form { cog: false, world: false, force: self.force };
-        let sheet = Sheet { rows: side, cols: side, picture, marks: None, georeference: &Georeference::default(), origin: &origin, form };
-        sheet::write(&self.path.join(name), &sheet)
-    }
-
-    /// Names the files, with the list of them, and removes what an earlier demo made and this one did not.
-    fn finish(mut self, parts: Vec<Parts>) -> Outcome<()> {
-        let parts = Parts::join(parts.into_iter().map(Ok))?;
-        let mut list = String::new();
-        let names = parts.written().map_err(|e| Trouble::file(&self.path, e))?;
-        for (name, digest) in &names {
-            let _ = writeln!(list, "{digest}  {name}");
-        }
-        let path = self.path.join(LIST);
-        let list = Parts::fill(&path, true, |out| out.write_all(list.as_bytes()).map_err(|e| Trouble::file(&path, e)));
-        let left: Vec<String> = self.earlier.keys().filter(|name| !names.contains_key(*name) && self.has_made(name)).cloned().collect();
-        sheet::finish(Parts::join([Ok(parts), list])?)?;
-        self.made.clear();
-        left.iter().for_each(|name| drop(fs::remove_file(self.path.join(name))));
-        Ok(())
-    }
-}
-
-impl Drop for Folder {
-    fn drop(&mut self) {
-        // Only empty ones go.
-        self.made.iter().for_each(|folder| drop(fs::remove_dir(folder)));
-    }
+/// A result of the demo, whose origin is the program alone.
+fn save(folder: &Folder, name: &str, side: usize, picture: Picture, force: bool) -> Outcome<Parts> {
+    let origin = origin::items("demo", &Origin::default())?;
+    let form = Form { cog: false, world: false, force };
+    let sheet = Sheet { rows: side, cols: side, picture, marks: None, georeference: &Georeference::default(), origin: &origin, form };
+    sheet::write(&folder.path.join(name), &sheet)
 }
 
 pub fn run(folder: &Path, side: usize, force: bool) -> Outcome<()> {
@@ -151,6 +82,7 @@ pub fn run(folder: &Path, side: usize, force: bool) -> Outcome<()> {
         return Err(Trouble::Usage("a demo scene has 1 to 4096 rows and columns".into()));
     }
     let folder = Folder::take(folder, force)?;
+    let save = |name: &str, picture: Picture| save(&folder, name, side, picture, force);
     let n = side * side;
     let mut parts = Vec::new();
     let mut text = String::new();
@@ -158,12 +90,12 @@ pub fn run(folder: &Path, side: usize, force: bool) -> Outcome<()> {
     let bands = step("making the scene", || [("vv", intensities(side, -12.0, 2.0, 1)), ("vh", intensities(side, -20.0, 1.0, 2))]);
     let mut made: Vec<(Vec<f64>, Vec<u8>)> = Vec::new();
     for (name, list) in &bands {
-        parts.push(folder.save(&format!("{name}-intensity.npy"), side, Picture::F32(list))?);
+        parts.push(save(&format!("{name}-intensity.npy"), Picture::F32(list))?);
         let db = decibels(list);
-        parts.push(folder.save(&format!("{name}.npy"), side, Picture::F64(&db))?);
+        parts.push(save(&format!("{name}.npy"), Picture::F64(&db))?);
         let mut valid_mask = memory::zeros(n, "marks")?;
         step("marks", || engine::marks(list, &mut valid_mask))?;
-        parts.push(folder.save(&format!("{name}-marks.npy"), side, Picture::Marks(&valid_mask))?);
+        parts.push(save(&format!("{name}-marks.npy"), Picture::Marks(&valid_mask))?);
 
         let band = Band { db: &db, valid_mask: &valid_mask };
         let statistics = step("statistics", || engine::statistics(side, side, band))?;
@@ -176,7 +108,7 @@ pub fn run(folder: &Path, side: usize, force: bool) -> Outcome<()> {
         }
         let mut greys = memory::zeros(n, "a picture")?;
         step("grey", || engine::grey_u16(AutoscaleStrategy::Default, side, side, band, &mut greys, &mut []))?;
-        parts.push(folder.save(&format!("{name}-grey16.png"), side, Picture::Grey16(&greys))?);
+        parts.push(save(&format!("{name}-grey16.png"), Picture::Grey16(&greys))?);
         made.push((db, valid_mask));
     }
 
@@ -189,7 +121,7 @@ pub fn run(folder: &Path, side: usize, force: bool) -> Outcome<()> {
         match step("picture", || engine::picture(strategy, SyntheticRgbMode::Default, side, side, band(0), band(1), lent, &mut work)) {
             Ok(()) => {
                 for (kind, picture) in [("rgb", Picture::Rgb(&rgb)), ("grey1", Picture::Grey8(&grey1)), ("grey2", Picture::Grey8(&grey2))] {
-                    parts.push(folder.save(&format!("{name}-{kind}.png"), side, picture)?);
+                    parts.push(save(&format!("{name}-{kind}.png"), picture)?);
                 }
             }
             Err(refusal) => drop(writeln!(text, "{name}: {refusal}")),
@@ -197,5 +129,5 @@ pub fn run(folder: &Path, side: usize, force: bool) -> Outcome<()> {
     }
     let _ = writeln!(text, "scene and pictures: {}", folder.path.display());
     print(&text)?;
-    folder.finish(parts)
+    folder.finish(parts, force)
 }

@@ -3,6 +3,7 @@
 
 use std::ffi::OsString;
 use std::io::{self, BufReader, BufWriter, Read, Write};
+use std::os::unix::io::AsRawFd;
 use std::path::PathBuf;
 use std::process::{Child, ChildStdin, ChildStdout, Command, Stdio};
 use std::time::Duration;
@@ -10,8 +11,8 @@ use wire::{Fields, Part, Pieces};
 
 pub struct Process {
     child: Child,
-    input: Option<BufWriter<ChildStdin>>,
-    output: BufReader<ChildStdout>,
+    input: Option<BufWriter<Patient<ChildStdin>>>,
+    output: BufReader<Patient<ChildStdout>>,
     /// Whether the process is of no use any more, whatever it was asked.
     pub is_lost: bool,
 }
@@ -40,6 +41,8 @@ impl Process {
         let (Some(input), Some(output)) = (child.stdin.take(), child.stdout.take()) else {
             return Err("GDAL's part of the program has no pipes".into());
         };
+        let input = Patient::new(input, libc::POLLOUT).map_err(|e| e.to_string())?;
+        let output = Patient::new(output, libc::POLLIN).map_err(|e| e.to_string())?;
         Ok(Process { child, input: Some(BufWriter::new(input)), output: BufReader::with_capacity(1 << 18, output), is_lost: false })
     }
 
@@ -158,5 +161,55 @@ impl Drop for Process {
         self.input = None;
         let _ = self.child.kill();
         let _ = self.child.wait();
+    }
+}
+
+/// An end of a pipe to the process. It ends by itself after two minutes of one request; a program that is another one may not.
+struct Patient<T> {
+    end: T,
+    event: i16,
+}
+
+impl<T: AsRawFd> Patient<T> {
+    fn new(end: T, event: i16) -> io::Result<Self> {
+        let descriptor = end.as_raw_fd();
+        let flags = unsafe { libc::fcntl(descriptor, libc::F_GETFL) };
+        if flags < 0 || unsafe { libc::fcntl(descriptor, libc::F_SETFL, flags | libc::O_NONBLOCK) } < 0 {
+            return Err(io::Error::last_os_error());
+        }
+        Ok(Patient { end, event })
+    }
+
+    /// Tries until the other end is ready, or too long.
+    fn wait<R>(&mut self, mut attempt: impl FnMut(&mut T) -> io::Result<R>) -> io::Result<R> {
+        const LONGEST: i32 = 150_000;
+        loop {
+            match attempt(&mut self.end) {
+                Err(e) if e.kind() == io::ErrorKind::WouldBlock => {}
+                done => return done,
+            }
+            let mut poll = libc::pollfd { fd: self.end.as_raw_fd(), events: self.event, revents: 0 };
+            match unsafe { libc::poll(&mut poll, 1, LONGEST) } {
+                0 => return Err(io::ErrorKind::TimedOut.into()),
+                ready if ready < 0 && io::Error::last_os_error().kind() != io::ErrorKind::Interrupted => return Err(io::Error::last_os_error()),
+                _ => {}
+            }
+        }
+    }
+}
+
+impl<T: AsRawFd + Read> Read for Patient<T> {
+    fn read(&mut self, bytes: &mut [u8]) -> io::Result<usize> {
+        self.wait(|end| end.read(bytes))
+    }
+}
+
+impl<T: AsRawFd + Write> Write for Patient<T> {
+    fn write(&mut self, bytes: &[u8]) -> io::Result<usize> {
+        self.wait(|end| end.write(bytes))
+    }
+
+    fn flush(&mut self) -> io::Result<()> {
+        self.wait(|end| end.flush())
     }
 }

@@ -7,19 +7,23 @@ mod commands;
 mod demo;
 mod elements;
 mod explain;
+mod folder;
 mod gdal;
 mod json;
 mod memory;
+mod naming;
 mod npy;
 mod origin;
 mod outputs;
 mod parts;
 mod progress;
+mod rights;
 mod said;
 mod scene;
 mod sheet;
 mod signals;
 mod source;
+mod standing;
 mod threads;
 mod trouble;
 mod view;
@@ -28,21 +32,22 @@ use clap::Parser;
 use progress::note;
 use std::panic::{self, AssertUnwindSafe};
 use std::process::ExitCode;
-use trouble::{Outcome, INTERNAL_STATUS, USAGE_STATUS};
+use trouble::{Outcome, Trouble, INTERNAL_STATUS};
 
 fn main() -> ExitCode {
     signals::start();
+    rights::start();
     panic::set_hook(Box::new(|what| note(&format!("internal error, nothing is written: {what}"))));
-    let arguments = match arguments::Arguments::try_parse() {
-        Ok(arguments) => arguments,
-        Err(error) if error.use_stderr() => {
-            let _ = error.print();
-            return ExitCode::from(USAGE_STATUS);
-        }
+    ExitCode::from(status(|| threads::within(work)))
+}
+
+fn work() -> Outcome<()> {
+    match arguments::Arguments::try_parse() {
+        Ok(arguments) => commands::run(arguments.command),
+        Err(error) if error.use_stderr() => Err(Trouble::Usage(error.to_string().trim_start_matches("error: ").trim_end().to_string())),
         // Help and version are results.
-        Err(error) => return ExitCode::from(status(|| commands::print(&error.to_string()))),
-    };
-    ExitCode::from(status(|| threads::within(|| commands::run(arguments.command))))
+        Err(error) => commands::print(&error.to_string()),
+    }
 }
 
 /// Runs the program's work, and tells what went wrong. Whatever goes wrong in the program itself ends here.
@@ -55,7 +60,7 @@ fn status(work: impl FnOnce() -> Outcome<()>) -> u8 {
         }
         Err(_) => INTERNAL_STATUS,
     };
-    parts::remove_all();
+    standing::undo_all();
     status
 }
 

@@ -1,12 +1,12 @@
 //! Memory: lists of pixels are asked for and refused with their size; where anything else finds no memory the program ends with the same
 //! status, its part files removed, instead of by a signal.
 
-use crate::parts;
+use crate::signals;
 use crate::trouble::{Outcome, Trouble, MEMORY_STATUS};
 use std::alloc::{GlobalAlloc, Layout, System};
 use std::cell::Cell;
 use std::io::Write;
-use std::os::raw::c_int;
+use std::ptr::null_mut;
 
 struct Allocator;
 
@@ -43,15 +43,24 @@ fn there(memory: *mut u8, size: usize) -> *mut u8 {
     memory
 }
 
-fn end(wanted: usize) -> ! {
-    parts::remove_all();
-    let mut text = [0u8; 120];
-    let mut rest = &mut text[..];
-    let _ = writeln!(rest, "quicklook: {wanted} bytes of memory are wanted, and there are none");
-    let len = 120 - rest.len();
+/// Ends the program for want of so many bytes. Asks for none.
+pub fn end(wanted: usize) -> ! {
+    if !signals::is_done() {
+        let mut text = [0u8; 120];
+        let mut rest = &mut text[..];
+        let _ = writeln!(rest, "quicklook: {wanted} bytes of memory are wanted, and there are none");
+        let len = 120 - rest.len();
+        unsafe { libc::write(2, text.as_ptr().cast(), len) };
+    }
+    signals::exit(MEMORY_STATUS)
+}
+
+/// Whether so much memory could be had now.
+pub fn is_there(bytes: usize) -> bool {
+    let (rights, kind) = (libc::PROT_READ | libc::PROT_WRITE, libc::MAP_PRIVATE | libc::MAP_ANONYMOUS | libc::MAP_NORESERVE);
     unsafe {
-        libc::write(2, text.as_ptr().cast(), len);
-        libc::_exit(c_int::from(MEMORY_STATUS))
+        let memory = libc::mmap(null_mut(), bytes, rights, kind, -1, 0);
+        memory != libc::MAP_FAILED && libc::munmap(memory, bytes) == 0
     }
 }
 

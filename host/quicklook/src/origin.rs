@@ -1,13 +1,13 @@
 //! Where a result came from: program and commit, strategy, windows, and the checksums of the input files. Outputs that can carry it do.
 
 use crate::arguments::VERSION;
-use crate::bytes::Stamp;
+use crate::bytes::{open_plain, Stamp};
 use crate::scene::Scene;
 use crate::threads;
 use crate::trouble::{Outcome, Trouble};
 use engine::{AutoscaleStrategy, SyntheticRgbMode, Window};
 use sha2::{Digest, Sha256};
-use std::fs::{self, File};
+use std::fs;
 use std::io::{self, Read};
 use std::path::{Path, PathBuf};
 use wire::Part;
@@ -127,7 +127,7 @@ pub fn painted_window(scene: &Scene, k: usize, strategy: AutoscaleStrategy, of_p
 }
 
 pub fn checksum(path: &Path) -> io::Result<String> {
-    let mut file = File::open(path)?;
+    let (mut file, _) = open_plain(path)?;
     let mut hasher = Sha256::new();
     let mut bytes = vec![0; 1 << 20];
     loop {

@@ -15,6 +15,8 @@ pub struct Target {
     /// Its folder, and the file in it, links followed.
     pub folder: PathBuf,
     pub place: PathBuf,
+    /// The folder's own number, whatever its name.
+    pub folder_id: (u64, u64),
     /// What stands there now.
     pub earlier: Option<Metadata>,
 }
@@ -44,20 +46,22 @@ impl Target {
             }
             _ => {}
         }
-        may_write(&folder).map_err(|e| Trouble::file(path, format!("its folder: {e}")))?;
-        if let (Some(there), Ok(around)) = (&earlier, fs::metadata(&folder)) {
-            let user = unsafe { libc::geteuid() };
-            if around.mode() & 0o1000 != 0 && ![there.uid(), around.uid()].contains(&user) && user != 0 {
-                return Err(Trouble::file(path, "another user's, in a folder where only its owner may replace it"));
-            }
+        let bad_folder = |e: io::Error| Trouble::file(path, format!("its folder: {e}"));
+        may_write(&folder).map_err(bad_folder)?;
+        let around = fs::metadata(&folder).map_err(bad_folder)?;
+        let user = unsafe { libc::geteuid() };
+        let is_sticky = around.mode() & 0o1000 != 0 && user != 0 && around.uid() != user;
+        if is_sticky && earlier.as_ref().is_some_and(|there| there.uid() != user) {
+            return Err(Trouble::file(path, "another user's, in a folder where only its owner may replace it"));
         }
-        Ok(Target { shown: path.to_path_buf(), folder, place, earlier })
+        Ok(Target { shown: path.to_path_buf(), folder, place, folder_id: (around.dev(), around.ino()), earlier })
     }
 
     /// Whether two names mean one file, as far as the file system tells.
     fn is(&self, other: &Target) -> bool {
         let same_file = |a: &Metadata, b: &Metadata| a.nlink() == 1 && (a.dev(), a.ino()) == (b.dev(), b.ino());
-        self.place == other.place || matches!((&self.earlier, &other.earlier), (Some(a), Some(b)) if same_file(a, b))
+        let same_place = self.folder_id == other.folder_id && self.place.file_name() == other.place.file_name();
+        same_place || matches!((&self.earlier, &other.earlier), (Some(a), Some(b)) if same_file(a, b))
     }
 }
 
@@ -73,7 +77,7 @@ pub fn judge(paths: &[PathBuf], force: bool) -> Outcome<()> {
 }
 
 /// An output that is one of the inputs is wrong use: a scene arrives once.
-pub fn spare<'a>(paths: &[&Path], inputs: impl Iterator<Item = &'a Path> + Clone) -> Outcome<()> {
+pub fn spare<'a>(paths: &[PathBuf], inputs: impl Iterator<Item = &'a Path> + Clone) -> Outcome<()> {
     let same = |a: &Path, b: &Path| match (fs::metadata(a), fs::metadata(b)) {
         (Ok(a), Ok(b)) => (a.dev(), a.ino()) == (b.dev(), b.ino()),
         _ => false,

@@ -3,6 +3,7 @@
 use crate::arguments::{Marks, Reading, Scaling};
 use crate::memory;
 use crate::origin::{Input, Origin};
+use crate::outputs;
 use crate::progress::note;
 use crate::said::Role;
 use crate::source::{Failed, List, Name, OwnMarks, Source};
@@ -10,6 +11,7 @@ use crate::threads;
 use crate::trouble::{Outcome, Trouble};
 use engine::Band;
 use std::ffi::OsString;
+use std::path::PathBuf;
 use wire::{Georeference, Part};
 
 /// How many bands a command takes.
@@ -61,7 +63,8 @@ struct Opened {
 }
 
 impl Scene {
-    pub fn read(files: &[OsString], wanted: Wanted, reading: &Reading) -> Outcome<Scene> {
+    /// Reads the rasters that the words name, none of which may be one of the outputs.
+    pub fn read(files: &[OsString], wanted: Wanted, reading: &Reading, outs: &[PathBuf]) -> Outcome<Scene> {
         let opened = open(files, wanted, reading)?;
         let crop = reading.crop;
         let parts = judge_sides(&opened, crop)?;
@@ -85,10 +88,12 @@ impl Scene {
             }
             source.notes.iter().for_each(|text| note(&format!("{}: GDAL says: {text}", source.shown)));
         }
+        let origin = Origin { inputs, crop };
+        outputs::spare(outs, origin.files())?;
         let pairs = opened.into_iter().zip(parts).collect();
         let bands = threads::map(pairs, |(band, part)| read_band(&band, part, reading)).into_iter().collect::<Outcome<Vec<_>>>()?;
         bands.iter().flat_map(|band| &band.notes).for_each(|text| note(text));
-        Ok(Scene { rows: part.rows, cols: part.cols, bands, georeference, origin: Origin { inputs, crop } })
+        Ok(Scene { rows: part.rows, cols: part.cols, bands, georeference, origin })
     }
 
     /// Valid in every band.

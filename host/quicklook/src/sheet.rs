@@ -55,15 +55,17 @@ fn format_of(path: &Path) -> Outcome<Format> {
     }
 }
 
-/// Judges a command's outputs before any work is done: their endings, and the places of all files that they consist of.
-pub fn plan(paths: &[&Path], is_float: bool, form: Form) -> Outcome<()> {
-    let mut files = Vec::new();
+/// Judges a command's outputs before any work is done: their endings, and the places of all files that they consist of. Gives all files
+/// that may be written.
+pub fn plan(paths: &[&Path], is_float: bool, form: Form) -> Outcome<Vec<PathBuf>> {
+    let (mut files, mut more) = (Vec::new(), Vec::new());
     for &path in paths {
         let usage = |what: &str| Err(Trouble::Usage(format!("{}: {what}", path.display())));
         match format_of(path)? {
             Format::Png if is_float => return usage("floats go to .npy or .tif"),
             Format::Png | Format::Npy if form.cog => return usage("--cog is for a .tif"),
             Format::Tiff | Format::Npy if form.world => return usage("--world is for a .png; a .tif has its georeference within"),
+            Format::Tiff => more.push(with_suffix(path, AUX)),
             _ => {}
         }
         files.push(path.to_path_buf());
@@ -71,7 +73,9 @@ pub fn plan(paths: &[&Path], is_float: bool, form: Form) -> Outcome<()> {
             files.extend([with_suffix(path, AUX), path.with_extension(WORLD)]);
         }
     }
-    outputs::judge(&files, form.force)
+    outputs::judge(&files, form.force)?;
+    files.append(&mut more);
+    Ok(files)
 }
 
 /// What stands beside a PNG with --world: what GDAL keeps there, and the world file.
@@ -189,6 +193,9 @@ fn write_tiff(path: &Path, sheet: &Sheet) -> Outcome<Parts> {
     sheet.georeference.put(&mut fields);
     let mut process = Process::start().map_err(|why| Trouble::file(path, why))?;
     let made = process.write(&fields, bytes, sheet.marks.unwrap_or(&[])).map_err(|why| Trouble::file(path, why))?;
+    if !matches!(made.iter().map(String::as_str).collect::<Vec<_>>()[..], [""] | ["", AUX]) {
+        return Err(Trouble::file(path, format!("GDAL made {made:?} of it")));
+    }
     Parts::join(made.iter().map(|suffix| take_file(&mut process, &with_suffix(path, suffix), sheet.form.force)))
 }
 

@@ -1,17 +1,24 @@
-//! Signals: those that end the program remove its part files first and let no set of outputs be named by half; a file that may grow no
-//! further is an error of the write.
+//! Signals: those that end the program undo first what stands on the disk. Outputs that take their names do so all or none: a signal that
+//! comes meanwhile waits until they are put back, and one that comes after them ends a program that has done its work.
 
-use crate::parts;
+use crate::standing;
 use std::mem::zeroed;
 use std::os::raw::c_int;
 use std::ptr::{null, null_mut};
-use std::sync::atomic::{AtomicBool, AtomicI32, Ordering::SeqCst};
+use std::sync::atomic::{AtomicI32, Ordering::SeqCst};
 
-const ENDING: [c_int; 5] = [libc::SIGHUP, libc::SIGINT, libc::SIGQUIT, libc::SIGTERM, libc::SIGXCPU];
+/// All that end a program unless it handles them, but for faults of its own and those that nobody handles.
+const ENDING: [c_int; 13] = [
+    libc::SIGHUP, libc::SIGINT, libc::SIGQUIT, libc::SIGTERM, libc::SIGXCPU, libc::SIGALRM, libc::SIGVTALRM, libc::SIGPROF, libc::SIGUSR1,
+    libc::SIGUSR2, libc::SIGIO, libc::SIGPWR, libc::SIGSTKFLT,
+];
 
-/// While outputs take their names a signal waits, and here is its number.
-static HELD: AtomicBool = AtomicBool::new(false);
-static CAME: AtomicI32 = AtomicI32::new(0);
+/// Where the program is; a positive number is the signal that came while outputs take their names.
+static STATE: AtomicI32 = AtomicI32::new(WORKING);
+const WORKING: c_int = 0;
+const NAMING: c_int = -1;
+const DONE: c_int = -2;
+const OVER: c_int = -3;
 
 /// From here on signals are handled; those that whoever started the program has it ignore stay so.
 pub fn start() {
@@ -22,12 +29,18 @@ pub fn start() {
             handle(number, ended);
         }
     }
-    unsafe { libc::signal(libc::SIGXFSZ, libc::SIG_IGN) };
+    unsafe {
+        // A file that may grow no further is an error of the write.
+        libc::signal(libc::SIGXFSZ, libc::SIG_IGN);
+        // The numbers of processes that have ended are kept until they are asked for.
+        libc::signal(libc::SIGCHLD, libc::SIG_DFL);
+    }
 }
 
 /// A mapped input that is shortened while it is read ends the program as a file that cannot be read.
 pub fn expect_shortened() {
     handle(libc::SIGBUS, shortened);
+    unblock(libc::SIGBUS);
 }
 
 fn handle(number: c_int, handler: extern "C" fn(c_int)) {
@@ -37,19 +50,39 @@ fn handle(number: c_int, handler: extern "C" fn(c_int)) {
     unsafe { libc::sigaction(number, &action, null_mut()) };
 }
 
-extern "C" fn ended(number: c_int) {
-    if HELD.load(SeqCst) { CAME.store(number, SeqCst) } else { end_by(number) }
-}
-
-/// Ends by the signal itself, so that whoever waits for the program sees which it was.
-fn end_by(number: c_int) -> ! {
-    parts::remove_all();
+fn unblock(number: c_int) {
     unsafe {
         let mut only: libc::sigset_t = zeroed();
         libc::sigemptyset(&mut only);
         libc::sigaddset(&mut only, number);
-        libc::signal(number, libc::SIG_DFL);
         libc::pthread_sigmask(libc::SIG_UNBLOCK, &only, null_mut());
+    }
+}
+
+extern "C" fn ended(number: c_int) {
+    loop {
+        match STATE.compare_exchange(WORKING, OVER, SeqCst, SeqCst) {
+            Ok(_) => {
+                standing::end();
+                end_by(number)
+            }
+            Err(NAMING) => {
+                if STATE.compare_exchange(NAMING, number, SeqCst, SeqCst).is_ok() {
+                    return;
+                }
+            }
+            Err(DONE) => exit(0),
+            // Another signal came before.
+            Err(_) => return,
+        }
+    }
+}
+
+/// Ends by the signal itself, so that whoever waits for the program sees which it was.
+fn end_by(number: c_int) -> ! {
+    unsafe {
+        libc::signal(number, libc::SIG_DFL);
+        unblock(number);
         libc::raise(number);
         libc::_exit(128 + number)
     }
@@ -57,20 +90,50 @@ fn end_by(number: c_int) -> ! {
 
 extern "C" fn shortened(_: c_int) {
     const TEXT: &[u8] = b"quicklook: an input was shortened while it was read; without --map that is told with its name\n";
-    parts::remove_all();
-    unsafe {
-        libc::write(2, TEXT.as_ptr().cast(), TEXT.len());
-        libc::_exit(c_int::from(crate::trouble::FILE_STATUS))
+    unsafe { libc::write(2, TEXT.as_ptr().cast(), TEXT.len()) };
+    exit(crate::trouble::FILE_STATUS)
+}
+
+/// Ends at once, from anywhere, with what stands undone. A program whose outputs are all named has done its work, whatever comes then.
+pub fn exit(status: u8) -> ! {
+    standing::end();
+    let status = if is_done() { 0 } else { status };
+    unsafe { libc::_exit(c_int::from(status)) }
+}
+
+/// Whether all outputs have their names.
+pub fn is_done() -> bool {
+    STATE.load(SeqCst) == DONE
+}
+
+/// The outputs begin to take their names.
+pub fn begin_naming() {
+    if STATE.compare_exchange(WORKING, NAMING, SeqCst, SeqCst).is_err() {
+        wait_for_the_end();
     }
 }
 
-/// Does something that no signal may end halfway; one that came meanwhile ends the program after it.
-pub fn held<T>(work: impl FnOnce() -> T) -> T {
-    HELD.store(true, SeqCst);
-    let done = work();
-    HELD.store(false, SeqCst);
-    match CAME.swap(0, SeqCst) {
-        0 => done,
-        number => end_by(number),
+/// Whether a signal came meanwhile.
+pub fn came() -> bool {
+    STATE.load(SeqCst) > 0
+}
+
+/// All outputs have their names. False where a signal came before.
+pub fn done() -> bool {
+    STATE.compare_exchange(NAMING, DONE, SeqCst, SeqCst).is_ok()
+}
+
+/// The outputs have been put back; a signal that came meanwhile ends the program now.
+pub fn give_up_naming() {
+    if let Err(number) = STATE.compare_exchange(NAMING, WORKING, SeqCst, SeqCst) {
+        standing::end();
+        end_by(number);
+    }
+}
+
+/// Another thread ends the program.
+pub fn wait_for_the_end() -> ! {
+    loop {
+        unsafe { libc::pause() };
     }
 }

@@ -1,7 +1,7 @@
 //! Rasters by name: opened, told what their files say, judged, and read exactly or refused. `.npy` files are read here, all others by
 //! GDAL's process (gdal.rs).
 
-use crate::bytes::{Bytes, STANDARD_INPUT};
+use crate::bytes::{open_plain, Bytes, STANDARD_INPUT};
 use crate::elements::{self, Kind, Layout, Stop};
 use crate::gdal::Process;
 use crate::memory::{self, Plain};
@@ -10,7 +10,7 @@ use crate::origin::Input;
 use crate::said::{Role, Said};
 use crate::trouble::{Outcome, Trouble};
 use std::ffi::OsStr;
-use std::fs::{File, FileType};
+use std::fs::FileType;
 use std::io::{self, Read};
 use std::ops::Range;
 use std::os::unix::fs::FileTypeExt;
@@ -332,7 +332,7 @@ impl Failed {
 fn is_npy(path: &Path) -> bool {
     let mut first = [0; 6];
     path.extension().is_some_and(|ending| ending == "npy")
-        || File::open(path).is_ok_and(|mut file| file.metadata().is_ok_and(|meta| meta.is_file()) && file.read_exact(&mut first).is_ok() && &first == npy::MAGIC)
+        || open_plain(path).is_ok_and(|(mut file, _)| file.read_exact(&mut first).is_ok() && &first == npy::MAGIC)
 }
 
 fn open_npy(name: &Name) -> Outcome<Source> {
@@ -389,6 +389,18 @@ fn read_npy<T: Plain>(bytes: &Bytes, head: &npy::Header, part: Part, take: impl 
     if head.fortran { elements::turned(&list, part.rows, part.cols).map_err(Stop::Memory) } else { Ok(list) }
 }
 
+/// The plain files that a name of GDAL's own has in it, such as `/vsizip/scene.zip/vv.tif` or `/vsisubfile/0,scene.tif`.
+fn files_within(name: &str) -> Vec<PathBuf> {
+    const MARKS: [char; 9] = ['/', ',', ':', '"', '=', '?', '&', '{', '}'];
+    let starts = std::iter::once(0).chain(name.match_indices(MARKS).flat_map(|(at, _)| [at, at + 1]));
+    let ends: Vec<usize> = name.match_indices(MARKS).map(|(at, _)| at).chain([name.len()]).collect();
+    let words = starts.flat_map(|start| ends.iter().filter(move |&&end| end > start).map(move |&end| &name[start..end]));
+    let mut files: Vec<PathBuf> = words.map(PathBuf::from).filter(|path| path.is_file()).collect();
+    files.sort();
+    files.dedup();
+    files
+}
+
 fn open_gdal(name: &Name) -> Outcome<Source> {
     let shown = name.shown();
     let bad = |what: String| Trouble::named(&shown, what);
@@ -403,7 +415,10 @@ fn open_gdal(name: &Name) -> Outcome<Source> {
     if !parts.is_empty() && (number("bands")? == 0 || is_paged) {
         return Err(bad(format!("several rasters; name one of {}", parts.join(", "))));
     }
-    let files: Vec<PathBuf> = told.all("file").map(PathBuf::from).filter(|file| file.is_file()).collect();
+    let mut files: Vec<PathBuf> = told.all("file").map(PathBuf::from).filter(|file| file.is_file()).collect();
+    if files.is_empty() {
+        files = files_within(path);
+    }
     Ok(Source {
         rows: number("rows")?,
         cols: number("cols")?,

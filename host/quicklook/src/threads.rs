@@ -1,5 +1,6 @@
 //! Work side by side on the machine's threads, or one after the other where no thread is to be had.
 
+use crate::memory;
 use rayon::prelude::*;
 use std::sync::atomic::{AtomicBool, Ordering::SeqCst};
 
@@ -9,13 +10,20 @@ static ALONE: AtomicBool = AtomicBool::new(false);
 const MOST: usize = 16;
 const STACK: usize = 4 << 20;
 
+/// What the system's libraries need beside them: where they find none they end the program by a signal.
+const BESIDE: usize = 8 << 20;
+
 /// Runs the program's work on threads of its own; each begins with the floating-point environment that the engine is proved for.
 pub fn within<T: Send>(work: impl FnOnce() -> T + Send) -> T {
     engine::set_environment();
     let count = std::thread::available_parallelism().map_or(1, |count| count.get().min(MOST));
-    match rayon::ThreadPoolBuilder::new().num_threads(count).stack_size(STACK).start_handler(|_| engine::set_environment()).build() {
-        Ok(pool) => pool.install(work),
-        Err(_) => {
+    if !memory::is_there(BESIDE) {
+        memory::end(BESIDE);
+    }
+    let pool = || rayon::ThreadPoolBuilder::new().num_threads(count).stack_size(STACK).start_handler(|_| engine::set_environment()).build().ok();
+    match Some(count * STACK + 2 * BESIDE).filter(|bytes| memory::is_there(*bytes)).and_then(|_| pool()) {
+        Some(pool) => pool.install(work),
+        None => {
             ALONE.store(true, SeqCst);
             work()
         }

@@ -37,9 +37,9 @@ pub fn run(files: &SceneFiles, strategy: AutoscaleStrategy, mode: SyntheticRgbMo
     if !matches!(out.extension().and_then(|e| e.to_str()), Some("html" | "htm")) {
         return Err(Trouble::Usage(format!("{}: name a page that ends in .html", out.display())));
     }
-    outputs::judge(&[out.to_path_buf()], force)?;
-    let read = step("reading", || Scene::read(&files.files, Wanted::OneOrTwo, &files.reading))?;
-    outputs::spare(&[out], read.origin.files())?;
+    let outs = [out.to_path_buf()];
+    outputs::judge(&outs, force)?;
+    let read = step("reading", || Scene::read(&files.files, Wanted::OneOrTwo, &files.reading, &outs))?;
     let (rows, cols) = (read.rows, read.cols);
     let refused = |refusal| explain::refused(refusal, &read, strategy);
     let (painted, origin) = step("painting", || {

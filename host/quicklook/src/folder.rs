@@ -1,0 +1,116 @@
+//! The demo's own folder: a list in it says what the demo made there, and anything else is left alone.
+
+use crate::bytes::open_plain;
+use crate::origin::checksum;
+use crate::parts::{is_part, Parts};
+use crate::sheet;
+use crate::trouble::{Outcome, Trouble};
+use std::collections::BTreeSet;
+use std::ffi::OsStr;
+use std::fmt::Write as _;
+use std::fs;
+use std::io::{self, Read, Write as _};
+use std::path::{Path, PathBuf};
+
+/// All files that a demo may make.
+const NAMES: [&str; 17] = [
+    "vv-intensity.npy", "vv.npy", "vv-marks.npy", "vv-grey16.png", "vh-intensity.npy", "vh.npy", "vh-marks.npy", "vh-grey16.png", "default-rgb.png",
+    "default-grey1.png", "default-grey2.png", "tamed-rgb.png", "tamed-grey1.png", "tamed-grey2.png", "clahe-rgb.png", "clahe-grey1.png",
+    "clahe-grey2.png",
+];
+
+/// The list: checksums and names in the words of sha256sum, as comments those of files that the next ones replace.
+const LIST: &str = ".quicklook-demo";
+
+/// A checksum and the name of a file that has it.
+type Made = (String, &'static str);
+
+pub struct Folder {
+    pub path: PathBuf,
+    /// Folders that the demo made, and takes away again if it comes to nothing.
+    new: Vec<PathBuf>,
+    /// What an earlier demo made; none where there is no list of the demo's.
+    earlier: Option<BTreeSet<Made>>,
+}
+
+impl Folder {
+    /// Takes a folder that holds nothing which the demo did not make, or any with `force`, or makes it.
+    pub fn take(path: &Path, force: bool) -> Outcome<Folder> {
+        let bad = |e: io::Error| Trouble::file(path, e);
+        let new = path.ancestors().take_while(|folder| !folder.as_os_str().is_empty() && !folder.exists()).map(Path::to_path_buf).collect();
+        let mut folder = Folder { path: path.to_path_buf(), new, earlier: None };
+        fs::create_dir_all(path).map_err(bad)?;
+        folder.earlier = read_list(&path.join(LIST));
+        for entry in fs::read_dir(path).map_err(bad)? {
+            let name = entry.map_err(bad)?.file_name();
+            if !force && !folder.has_made(&name) {
+                return Err(Trouble::Usage(format!(
+                    "{}: it holds {}, which the demo did not make; name another folder, or give --force to replace what has the names of the \
+                     demo's files",
+                    path.display(),
+                    name.to_string_lossy()
+                )));
+            }
+        }
+        Ok(folder)
+    }
+
+    /// Whether an earlier demo made the file, as it stands there now.
+    fn has_made(&self, name: &OsStr) -> bool {
+        let path = self.path.join(name);
+        if !fs::symlink_metadata(&path).is_ok_and(|there| there.is_file()) {
+            return false;
+        }
+        is_part(name) || self.earlier.is_some() && name == LIST || NAMES.iter().any(|known| name == *known && self.made_of(known).is_some())
+    }
+
+    /// What an earlier demo made under the name, if that stands there now.
+    fn made_of(&self, name: &'static str) -> Option<Made> {
+        let made = (checksum(&self.path.join(name)).ok()?, name);
+        self.earlier.as_ref()?.contains(&made).then_some(made)
+    }
+
+    /// Names the files, the list of them first, and removes what an earlier demo made and this one did not.
+    pub fn finish(mut self, parts: Vec<Parts>, force: bool) -> Outcome<()> {
+        let parts = Parts::join(parts.into_iter().map(Ok))?;
+        let made = parts.written().map_err(|e| Trouble::file(&self.path, e))?;
+        let mut list = String::new();
+        for (name, digest) in &made {
+            let _ = writeln!(list, "{digest}  {name}");
+        }
+        let replaced: Vec<Made> = NAMES.iter().filter_map(|name| self.made_of(name)).filter(|(digest, name)| !made.contains(&(name.to_string(), digest.clone()))).collect();
+        for (digest, name) in &replaced {
+            let _ = writeln!(list, "# {digest}  {name}");
+        }
+        let path = self.path.join(LIST);
+        let list = Parts::fill(&path, force, |out| out.write_all(list.as_bytes()).map_err(|e| Trouble::file(&path, e)));
+        sheet::finish(Parts::join([list, Ok(parts)])?)?;
+        self.new.clear();
+        let left = replaced.iter().filter(|(_, name)| !made.iter().any(|(other, _)| other == name));
+        left.for_each(|(_, name)| drop(fs::remove_file(self.path.join(name))));
+        Ok(())
+    }
+}
+
+impl Drop for Folder {
+    fn drop(&mut self) {
+        // Only empty ones go.
+        self.new.iter().for_each(|folder| drop(fs::remove_dir(folder)));
+    }
+}
+
+/// The list, where it is one of the demo's from its first line to its last.
+fn read_list(path: &Path) -> Option<BTreeSet<Made>> {
+    const LONGEST: u64 = 10_000;
+    fs::symlink_metadata(path).ok().filter(|there| there.is_file())?;
+    let mut text = String::new();
+    open_plain(path).ok()?.0.take(LONGEST).read_to_string(&mut text).ok()?;
+    text.lines()
+        .map(|line| {
+            let (digest, name) = line.strip_prefix("# ").unwrap_or(line).split_once("  ")?;
+            let is_digest = digest.len() == 64 && digest.bytes().all(|digit| digit.is_ascii_hexdigit());
+            let name = NAMES.iter().find(|known| **known == name)?;
+            is_digest.then(|| (digest.to_string(), *name))
+        })
+        .collect()
+}
