@@ -22,7 +22,7 @@ const OVER: c_int = -3;
 
 /// From here on signals are handled; those that whoever started the program has it ignore stay so.
 pub fn start() {
-    for number in ENDING {
+    for number in ENDING.into_iter().chain(libc::SIGRTMIN()..=libc::SIGRTMAX()) {
         let mut before: libc::sigaction = unsafe { zeroed() };
         let is_ignored = unsafe { libc::sigaction(number, null(), &mut before) } == 0 && before.sa_sigaction == libc::SIG_IGN;
         if !is_ignored {

@@ -74,8 +74,13 @@ impl Slot {
             NEW if signals::is_done() => true,
             _ => unsafe { libc::unlink(path) == 0 },
         };
-        self.path.store(null_mut(), SeqCst);
+        self.free();
         is_undone
+    }
+
+    fn free(&self) {
+        self.kind.store(PART, SeqCst);
+        self.path.store(null_mut(), SeqCst);
     }
 }
 
@@ -91,10 +96,7 @@ impl Fleeting {
         let name = CString::new(path.as_os_str().as_bytes())?.into_raw();
         let free = |slot: &Slot| slot.path.compare_exchange(null_mut(), name, SeqCst, SeqCst).is_ok();
         match TABLE.iter().position(free) {
-            Some(slot) => {
-                TABLE[slot].kind.store(PART, SeqCst);
-                Ok(Fleeting { path, slot })
-            }
+            Some(slot) => Ok(Fleeting { path, slot }),
             None => {
                 drop(unsafe { CString::from_raw(name) });
                 Err(io::Error::new(io::ErrorKind::Other, "too many outputs at once"))
@@ -140,7 +142,7 @@ impl Fleeting {
 
     /// There is nothing to undo any more.
     pub fn keep(self) {
-        TABLE[self.slot].path.store(null_mut(), SeqCst);
+        TABLE[self.slot].free();
     }
 }
 

@@ -20,14 +20,14 @@ pub fn within<T: Send>(work: impl FnOnce() -> T + Send) -> T {
     if !memory::is_there(BESIDE) {
         memory::end(BESIDE);
     }
-    let pool = || rayon::ThreadPoolBuilder::new().num_threads(count).stack_size(STACK).start_handler(|_| engine::set_environment()).build().ok();
-    match Some(count * STACK + 2 * BESIDE).filter(|bytes| memory::is_there(*bytes)).and_then(|_| pool()) {
-        Some(pool) => pool.install(work),
-        None => {
-            ALONE.store(true, SeqCst);
-            work()
+    if memory::is_there(count * STACK + 2 * BESIDE) {
+        let pool = rayon::ThreadPoolBuilder::new().num_threads(count).stack_size(STACK).start_handler(|_| engine::set_environment());
+        if let Ok(pool) = pool.build() {
+            return pool.install(work);
         }
     }
+    ALONE.store(true, SeqCst);
+    work()
 }
 
 pub fn join<A: Send, B: Send>(a: impl FnOnce() -> A + Send, b: impl FnOnce() -> B + Send) -> (A, B) {
