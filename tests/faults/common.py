@@ -2,8 +2,10 @@
 import errno
 import os
 import pathlib
+import shutil
 import subprocess
 import tempfile
+import time
 import unittest
 
 import numpy
@@ -77,6 +79,23 @@ class Case(unittest.TestCase):
         settings = dict(capture_output=True, cwd=self.folder, env=variables, timeout=120, stdin=subprocess.DEVNULL)
         settings.update(more)
         return subprocess.run([PROGRAM, *map(str, words)], **settings)
+
+    def slowly(self, words, fault, seconds=8, **more):
+        """A run whose call `fault` takes its time, when it has come to it."""
+        mark = pathlib.Path(tempfile.mkdtemp()) / "mark"
+        self.addCleanup(shutil.rmtree, mark.parent, ignore_errors=True)
+        environment = dict(os.environ, LD_PRELOAD=shim(), FAULT=f"{fault}:0", FAULT_WAIT=str(seconds), FAULT_MARK=str(mark))
+        process = subprocess.Popen([PROGRAM, *words], cwd=self.folder, stdin=subprocess.DEVNULL, stdout=subprocess.DEVNULL, stderr=subprocess.PIPE, env=environment, **more)
+        end = time.monotonic() + 60
+        while not mark.exists() and process.poll() is None and time.monotonic() < end:
+            time.sleep(0.005)
+        self.assertTrue(mark.exists(), fault)
+        return process
+
+    def ends(self, process):
+        """The status of a run, and what it told."""
+        _, told = process.communicate(timeout=120)
+        return process.returncode, told.decode(errors="replace")
 
     def done(self, *words, **more):
         result = self.run_(*words, **more)

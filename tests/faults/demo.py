@@ -3,7 +3,7 @@ import hashlib
 import os
 import subprocess
 
-from faults.common import Case
+from faults.common import PROGRAM, Case
 
 
 class Demo(Case):
@@ -72,6 +72,34 @@ class Demo(Case):
         self.done(*self.demo())
         self.assertEqual(kept.read_bytes(), b"kept")
 
+    def test_put_there_meanwhile(self):
+        """What the user puts into the folder while the demo works is not the demo's."""
+        for earlier in (None, "9"):
+            subprocess.run(["rm", "-rf", self.folder / "d"], check=True)
+            if earlier:
+                self.done("demo", "d", "--side", earlier)
+            process = self.slowly(self.demo(), "fsync:17", 1)
+            (self.folder / "d" / "clahe-rgb.png").write_bytes(b"mine")
+            status, told = self.ends(process)
+            self.assertEqual(status, 64, told)
+            self.assertEqual((self.folder / "d" / "clahe-rgb.png").read_bytes(), b"mine")
+
+    def test_two_at_once(self):
+        """Whichever ends last, the next finds its own files."""
+        for _ in range(6):
+            running = [subprocess.Popen([PROGRAM, "demo", "d", "--side", side], cwd=self.folder, stdout=subprocess.DEVNULL, stderr=subprocess.DEVNULL) for side in ("9", "64", "65")]
+            for process in running:
+                self.assertIn(process.wait(timeout=60), (0, 64, 74))
+            self.done(*self.demo())
+
+    def test_links_are_not_followed(self):
+        """Not even by force."""
+        self.done(*self.demo())
+        vv = self.folder / "d" / "vv.npy"
+        os.replace(vv, self.folder / "scene.npy")
+        vv.symlink_to("../scene.npy")
+        self.fails(64, "vv.npy", *self.demo("--force"))
+
     def test_killed_while_names_are_given(self):
         """Over an earlier demo or in a new folder: the next one finds its own files and goes on."""
         for earlier in (None, "64", "9"):
@@ -79,7 +107,7 @@ class Demo(Case):
                 subprocess.run(["rm", "-rf", self.folder / "d"], check=True)
                 if earlier:
                     self.done("demo", "d", "--side", earlier)
-                killed = self.run_("demo", "d", "--side", "32", environment={"FAULT": f"rename:{place}:0", "FAULT_KILL": "1"})
+                killed = self.run_("demo", "d", "--side", "32", environment={"FAULT": f"exchange:{place}:0", "FAULT_KILL": "1"})
                 self.assertEqual(killed.returncode, -9)
                 self.done("demo", "d", "--side", "32")
                 self.assertEqual(len(os.listdir(self.folder / "d")), 18)
@@ -96,11 +124,11 @@ class Demo(Case):
         self.fails(74, "pipe", "demo", "pipe", "--side", "32")
 
     def test_nothing_is_left_of_a_failed_one(self):
-        for fault in (("write", 3, "ENOSPC"), ("fsync", 9, "EIO"), ("rename", 7, "EPERM"), ("open", 12, "EMFILE")):
+        for fault in (("write", 3, "ENOSPC"), ("fsync", 9, "EIO"), ("exchange", 7, "EPERM"), ("open", 13, "EMFILE")):
             self.fails(74, "", "demo", "new/d", "--side", "32", fault=fault)
         self.done(*self.demo())
         for place in (1, 8, 18):
-            self.fails(74, "", *self.demo(), fault=("rename", place, "EPERM"))
+            self.fails(74, "", *self.demo(), fault=("exchange", place, "EPERM"))
 
     def test_the_same_bytes_each_time(self):
         self.done(*self.demo())

@@ -92,19 +92,17 @@ class Ended(Case):
     def test_signal_while_names_are_given(self):
         """A signal between two renames waits until the first is put back."""
         names, words = FORMATS["npy"], self.words("npy")
-        self.done(*words)
-        new = self.bytes_of(names)
-        self.put_earlier(names)
-        environment = dict(os.environ, LD_PRELOAD=shim(), FAULT="rename:2:0", FAULT_WAIT="2")
-        process = self.start(words, env=environment)
-        end = time.monotonic() + 30
-        while self.bytes_of(names)[0] == EARLIER and time.monotonic() < end:
-            time.sleep(0.01)
-        self.assertEqual(self.bytes_of(names), [new[0], EARLIER, EARLIER])
-        process.send_signal(signal.SIGTERM)
-        self.assertEqual(process.wait(timeout=60), -signal.SIGTERM)
-        self.assertEqual(self.bytes_of(names), [EARLIER] * 3)
-        self.assertEqual(self.left(), [])
+        for place in (1, 2, 3):
+            for is_there in (True, False):
+                self.clear(names)
+                if is_there:
+                    self.put_earlier(names)
+                before = self.bytes_of(names)
+                process = self.slowly(words, f"exchange:{place}", 1)
+                process.send_signal(signal.SIGTERM)
+                self.assertEqual(self.ends(process), (-signal.SIGTERM, ""))
+                self.assertEqual(self.bytes_of(names), before)
+                self.assertEqual(self.left(), [])
 
     def test_signal_after_names_are_given(self):
         """Once all outputs have their names the program has done its work."""
@@ -112,21 +110,53 @@ class Ended(Case):
         self.done(*words)
         new = self.bytes_of(names)
         self.put_earlier(names)
-        # The second names are removed last, slowly.
-        process = self.start(words, env=dict(os.environ, LD_PRELOAD=shim(), FAULT="unlink:1*:0", FAULT_WAIT="2"))
-        end = time.monotonic() + 30
-        while self.bytes_of(names) != new and time.monotonic() < end:
-            time.sleep(0.01)
-        time.sleep(0.5)
-        process.send_signal(signal.SIGTERM)
-        self.assertEqual(process.wait(timeout=60), 0)
+        # The earlier files are removed last, slowly.
+        process = self.slowly(words, "unlink:1", 1)
         self.assertEqual(self.bytes_of(names), new)
+        process.send_signal(signal.SIGTERM)
+        self.assertEqual(self.ends(process), (0, ""))
+        self.assertEqual(self.bytes_of(names), new)
+        self.assertEqual(self.left(), [])
+
+    def test_signals_that_other_programs_send(self):
+        """Whatever ends a program ends this one with nothing left."""
+        names, words = FORMATS["npy"], self.words("npy")
+        for how in (signal.SIGABRT, signal.SIGSYS, signal.SIGTRAP, signal.SIGUSR1, signal.SIGUSR2, signal.SIGALRM, signal.SIGVTALRM, signal.SIGPROF, signal.SIGIO, signal.SIGPWR,
+                    signal.SIGRTMIN, signal.SIGRTMAX):
+            self.put_earlier(names)
+            process = self.slowly(words, "fsync:3", 1)
+            self.assertGreaterEqual(len(self.left()), 1)
+            process.send_signal(how)
+            self.assertEqual(self.ends(process)[0], -how)
+            self.assertEqual(self.bytes_of(names), [EARLIER] * 3)
+            self.assertEqual(self.left(), [], how)
+
+    def test_folders_of_a_demo(self):
+        process = self.slowly(["demo", "new/d", "--side", "32"], "fsync:3", 1)
+        process.send_signal(signal.SIGTERM)
+        self.assertEqual(self.ends(process)[0], -signal.SIGTERM)
+        self.assertFalse((self.folder / "new").exists())
+
+    def test_sweeping_and_naming(self):
+        """A run that sweeps takes no second name from one that names, whatever a killed one left."""
+        names, words = FORMATS["npy"], self.words("npy")
+        self.put_earlier(names)
+        killed = self.run_(*words, environment={"FAULT": "exchange:2:0", "FAULT_KILL": "1"})
+        self.assertEqual(killed.returncode, -9)
+        self.assertEqual(len(self.left()), 3)
+        slow = self.slowly(words, "exchange:2", 6)
+        other = self.start(words)
+        time.sleep(2)
+        slow.send_signal(signal.SIGTERM)
+        self.assertEqual(self.ends(slow)[0], -signal.SIGTERM)
+        self.assertEqual(other.wait(timeout=60), 0)
+        self.done(*words)
         self.assertEqual(self.left(), [])
 
     def test_ignored_signals_stay_ignored(self):
         """As nohup has it."""
         words = self.words("npy")
-        seconds = self.took(words)
+        seconds = min(self.took(words) for _ in range(3))
         living = 0
         for part in range(1, 12):
             process = self.start(words, preexec_fn=lambda: signal.signal(signal.SIGHUP, signal.SIG_IGN))
@@ -139,14 +169,12 @@ class Ended(Case):
     def test_a_living_run_keeps_its_part_files(self):
         """A run for the same output takes no part file from one that still writes."""
         names, words = FORMATS["npy"], self.words("npy")
-        slow = self.start(words, env=dict(os.environ, LD_PRELOAD=shim(), FAULT="fsync:3:0", FAULT_WAIT="3"))
-        end = time.monotonic() + 30
-        while len(self.left()) < 3 and time.monotonic() < end:
-            time.sleep(0.01)
-        self.assertEqual(len(self.left()), 3)
+        slow = self.slowly(words, "fsync:3", 8)
+        parts = set(self.left())
+        self.assertGreaterEqual(len(parts), 1)
         self.done(*words)
-        self.assertEqual(len(self.left()), 3)
-        self.assertEqual(slow.wait(timeout=60), 0)
+        self.assertEqual(set(self.left()), parts)
+        self.assertEqual(self.ends(slow)[0], 0)
         self.assertEqual(self.left(), [])
         self.assertNotIn(None, self.bytes_of(names))
 

@@ -83,13 +83,11 @@ class Inputs(Case):
             for mapped in ([], ["--map"]):
                 for keep in (0, 100, 5000, len(bytes_) - 1):
                     self.put_earlier(names)
-                    environment = dict(os.environ, LD_PRELOAD=shim(), FAULT="pread:1*:0" if not mapped else "open:1*:0", FAULT_WAIT="0.15")
-                    process = subprocess.Popen([PROGRAM, *words, *mapped], cwd=self.folder, stderr=subprocess.PIPE, env=environment)
-                    time.sleep(0.4)
+                    process = self.slowly([*words, *mapped], "fsync:1*" if mapped else "pread:2*", 0.3)
                     os.truncate(self.folder / name, keep)
-                    _, told = process.communicate(timeout=60)
-                    self.assertEqual(process.returncode, 74, (name, mapped, keep, told))
-                    self.assertIn(b"shortened" if mapped and b"shortened" in told else name.encode(), told)
+                    status, told = self.ends(process)
+                    self.assertEqual(status, 74, (name, mapped, keep, told))
+                    self.assertIn("shortened" if "shortened" in told else name, told)
                     self.assertEqual(self.bytes_of(names), [EARLIER] * 3)
                     self.assertEqual(self.left(), [])
                     (self.folder / name).write_bytes(bytes_)
@@ -99,34 +97,36 @@ class Inputs(Case):
         for name in ("db1.npy", "marks2.npy", "scene.tif"):
             form = "tif" if name == "scene.tif" else "npy"
             self.put_earlier(FORMATS[form])
-            environment = dict(os.environ, LD_PRELOAD=shim(), FAULT="fsync:1:0", FAULT_WAIT="1")
-            for change in ("written", "replaced"):
-                process = subprocess.Popen([PROGRAM, *self.words(form)], cwd=self.folder, stderr=subprocess.PIPE, env=environment)
-                end = time.monotonic() + 20
-                while not self.left() and time.monotonic() < end:
-                    time.sleep(0.01)
+            for change in ("written", "replaced", "written with its time"):
+                process = self.slowly(self.words(form), "fsync:1", 1)
+                there = (self.folder / name).stat()
                 bytes_ = (self.folder / name).read_bytes()
-                if change == "written":
+                if change != "replaced":
                     (self.folder / name).write_bytes(bytes_)
+                    if change == "written with its time":
+                        os.utime(self.folder / name, ns=(there.st_atime_ns, there.st_mtime_ns))
                 else:
                     (self.folder / "other").write_bytes(bytes_)
                     os.replace(self.folder / "other", self.folder / name)
-                _, told = process.communicate(timeout=60)
-                self.assertEqual(process.returncode, 74, (name, change, told))
-                self.assertIn(b"changed while it was read", told)
+                status, told = self.ends(process)
+                self.assertEqual(status, 74, (name, change, told))
+                self.assertIn("changed while it was read", told)
                 self.assertEqual(self.bytes_of(FORMATS[form]), [EARLIER] * 3)
                 self.assertEqual(self.left(), [])
 
-    def test_mapped_and_shortened_under_a_parent_that_blocks_the_signal(self):
+    def test_mapped_and_shortened_in_the_middle(self):
+        """The page that is not there any more is met by whichever thread reads it, under a parent that blocks the signal too."""
         bytes_ = (self.folder / "db1.npy").read_bytes()
-        environment = dict(os.environ, LD_PRELOAD=shim(), FAULT="open:1*:0", FAULT_WAIT="0.15")
-        process = subprocess.Popen([PROGRAM, *self.words("npy"), "--map"], cwd=self.folder, stderr=subprocess.PIPE, env=environment,
-                                   preexec_fn=lambda: signal.pthread_sigmask(signal.SIG_BLOCK, [signal.SIGBUS]))
-        time.sleep(0.4)
-        os.truncate(self.folder / "db1.npy", 5000)
-        _, told = process.communicate(timeout=60)
-        self.assertEqual(process.returncode, 74, told)
-        (self.folder / "db1.npy").write_bytes(bytes_)
+        for how in (lambda: None, lambda: signal.pthread_sigmask(signal.SIG_BLOCK, [signal.SIGBUS])):
+            seen = 0
+            for _ in range(12):
+                process = self.slowly(["grey", "db1.npy", "marks1.npy", "--out", "o.npy", "--map"], "open:6*", 0.1, preexec_fn=how)
+                os.truncate(self.folder / "db1.npy", 5000)
+                status, told = self.ends(process)
+                self.assertEqual(status, 74, told)
+                seen += "shortened while it was read" in told
+                (self.folder / "db1.npy").write_bytes(bytes_)
+            self.assertGreater(seen, 0)
 
     def test_other_programs_in_place_of_gdals(self):
         """Ended at once, silent without reading, echoing, flooding: the file's trouble."""

@@ -3,11 +3,10 @@ import os
 import pathlib
 import stat
 import subprocess
-import time
 import unittest
 import zipfile
 
-from faults.common import EARLIER, PROGRAM, Case, shim
+from faults.common import EARLIER, PROGRAM, Case
 
 SCENE = ["db1.npy", "marks1.npy", "db2.npy", "marks2.npy"]
 
@@ -222,14 +221,21 @@ class Names(Case):
     def test_earlier_file_goes_meanwhile(self):
         """Then the output is a new file like any other."""
         self.put_earlier(["a.npy"])
-        slow = dict(os.environ, LD_PRELOAD=shim(), FAULT="fsync:1:0", FAULT_WAIT="1")
-        process = subprocess.Popen([PROGRAM, *self.picture("--out", "a.npy")], cwd=self.folder, env=slow, preexec_fn=lambda: os.umask(0o027))
-        end = time.monotonic() + 30
-        while not self.left() and time.monotonic() < end:
-            time.sleep(0.01)
+        process = self.slowly(self.picture("--out", "a.npy"), "fsync:1", 1, preexec_fn=lambda: os.umask(0o027))
         (self.folder / "a.npy").unlink()
-        self.assertEqual(process.wait(timeout=60), 0)
+        self.assertEqual(self.ends(process)[0], 0)
         self.assertEqual(stat.S_IMODE((self.folder / "a.npy").stat().st_mode), 0o640)
+
+    def test_files_that_look_like_part_files(self):
+        """Only names just as the program gives them are swept."""
+        self.done("read", "db1.npy", "--out", "o.npy", environment={"FAULT": "unlink:1*:1"})
+        self.done("read", "db1.npy", "--out", "o.npy", environment={"FAULT": "unlink:1*:1"})
+        [part] = self.left()
+        mine = [part.replace(".part", ".copy.part"), part.replace(".part", "0.part"), part + ".bak", ".quicklook-x.part"]
+        for name in mine:
+            (self.folder / name).write_bytes(b"mine")
+        self.done("read", "db1.npy", "--out", "o.npy")
+        self.assertEqual(sorted(self.left()), sorted(mine))
 
     def test_hard_links(self):
         """Another name of the earlier file keeps the earlier bytes."""

@@ -1,6 +1,7 @@
 /* Faults for the program quicklook, by LD_PRELOAD; its GDAL process is left alone.
  *   FAULT=FUNCTION:N:ERRNO   the Nth call of a C function fails; with N* that one and all after it; several with commas. With
- *                            FAULT_KILL=1 it ends the program as kill -9 does, with FAULT_WAIT=SECONDS it takes its time and does not fail
+ *                            FAULT_KILL=1 it ends the program as kill -9 does, with FAULT_WAIT=SECONDS it takes its time and does not fail;
+ *                            the file FAULT_MARK is made when it begins to
  *   FAULT_COUNTS=FILE        how often each function was called
  *   FAULT_RANDOM=1           random numbers are all 0
  *   FAULT_FLOAT=up|flush|trap   every thread begins in another floating-point environment */
@@ -18,6 +19,7 @@
 #include <string.h>
 #include <sys/random.h>
 #include <sys/stat.h>
+#include <sys/syscall.h>
 #include <unistd.h>
 #include <xmmintrin.h>
 
@@ -67,7 +69,12 @@ static int is_due(enum call call)
     int n = ++count[call];
     if (!faults[call].at || n < faults[call].at || (n > faults[call].at && !faults[call].is_for_ever)) return 0;
     if (getenv("FAULT_KILL")) raise(SIGKILL);
-    if (getenv("FAULT_WAIT")) return usleep(1000000 * atof(getenv("FAULT_WAIT"))), 0;
+    if (getenv("FAULT_WAIT")) {
+        const char *mark = getenv("FAULT_MARK");
+        if (mark) syscall(SYS_close, syscall(SYS_openat, AT_FDCWD, mark, O_CREAT | O_WRONLY, 0600));
+        usleep(1000000 * atof(getenv("FAULT_WAIT")));
+        return 0;
+    }
     errno = faults[call].number;
     return 1;
 }

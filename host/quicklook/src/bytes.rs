@@ -90,14 +90,11 @@ impl Bytes {
 
     /// The bytes from `at` on, as many as `into` has.
     pub fn read(&self, at: usize, into: &mut [u8]) -> io::Result<()> {
-        match (self, self.in_memory()) {
-            (Bytes::File(file, _), _) => file.read_exact_at(into, at as u64),
-            (_, Some(all)) => {
-                let end = at.checked_add(into.len()).filter(|&end| end <= all.len()).ok_or(io::ErrorKind::UnexpectedEof)?;
-                into.copy_from_slice(&all[at..end]);
-                Ok(())
-            }
-            (_, None) => Err(io::ErrorKind::UnexpectedEof.into()),
+        if let Bytes::File(file, _) = self {
+            return file.read_exact_at(into, at as u64);
         }
+        let from = self.in_memory().and_then(|all| all.get(at..at.checked_add(into.len())?));
+        into.copy_from_slice(from.ok_or(io::ErrorKind::UnexpectedEof)?);
+        Ok(())
     }
 }

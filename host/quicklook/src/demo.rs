@@ -127,7 +127,6 @@ pub fn run(folder: &Path, side: usize, force: bool) -> Outcome<()> {
             Err(refusal) => drop(writeln!(text, "{name}: {refusal}")),
         }
     }
-    let _ = writeln!(text, "scene and pictures: {}", folder.path.display());
     print(&text)?;
-    folder.finish(parts, force)
+    folder.finish(parts)
 }

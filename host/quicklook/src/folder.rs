@@ -4,6 +4,7 @@ use crate::bytes::open_plain;
 use crate::origin::checksum;
 use crate::parts::{is_part, Parts};
 use crate::sheet;
+use crate::standing::Fleeting;
 use crate::trouble::{Outcome, Trouble};
 use std::collections::BTreeSet;
 use std::ffi::OsStr;
@@ -27,32 +28,43 @@ type Made = (String, &'static str);
 
 pub struct Folder {
     pub path: PathBuf,
-    /// Folders that the demo made, and takes away again if it comes to nothing.
-    new: Vec<PathBuf>,
+    /// Folders that the demo made, which go again if it comes to nothing, the inner ones first.
+    new: Vec<Fleeting>,
     /// What an earlier demo made; none where there is no list of the demo's.
     earlier: Option<BTreeSet<Made>>,
+    force: bool,
 }
 
 impl Folder {
     /// Takes a folder that holds nothing which the demo did not make, or any with `force`, or makes it.
     pub fn take(path: &Path, force: bool) -> Outcome<Folder> {
         let bad = |e: io::Error| Trouble::file(path, e);
-        let new = path.ancestors().take_while(|folder| !folder.as_os_str().is_empty() && !folder.exists()).map(Path::to_path_buf).collect();
-        let mut folder = Folder { path: path.to_path_buf(), new, earlier: None };
-        fs::create_dir_all(path).map_err(bad)?;
-        folder.earlier = read_list(&path.join(LIST));
-        for entry in fs::read_dir(path).map_err(bad)? {
+        let mut folder = Folder { path: path.to_path_buf(), new: Vec::new(), earlier: None, force };
+        let missing: Vec<&Path> = path.ancestors().take_while(|folder| !folder.as_os_str().is_empty() && !folder.exists()).collect();
+        for &one in missing.iter().rev() {
+            folder.new.insert(0, Fleeting::folder(one.to_path_buf()).map_err(bad)?);
+        }
+        folder.judge()?;
+        Ok(folder)
+    }
+
+    /// Looks at the folder's list, and whether it holds anything else.
+    fn judge(&mut self) -> Outcome<()> {
+        let bad = |e: io::Error| Trouble::file(&self.path, e);
+        self.earlier = read_list(&self.path.join(LIST));
+        for entry in fs::read_dir(&self.path).map_err(bad)? {
             let name = entry.map_err(bad)?.file_name();
-            if !force && !folder.has_made(&name) {
+            let is_link = NAMES.iter().chain([&LIST]).any(|known| name == *known) && self.path.join(&name).is_symlink();
+            if is_link || !self.force && !self.has_made(&name) {
                 return Err(Trouble::Usage(format!(
                     "{}: it holds {}, which the demo did not make; name another folder, or give --force to replace what has the names of the \
-                     demo's files",
-                    path.display(),
+                     demo's files and is no link",
+                    self.path.display(),
                     name.to_string_lossy()
                 )));
             }
         }
-        Ok(folder)
+        Ok(())
     }
 
     /// Whether an earlier demo made the file, as it stands there now.
@@ -71,7 +83,7 @@ impl Folder {
     }
 
     /// Names the files, the list of them first, and removes what an earlier demo made and this one did not.
-    pub fn finish(mut self, parts: Vec<Parts>, force: bool) -> Outcome<()> {
+    pub fn finish(mut self, parts: Vec<Parts>) -> Outcome<()> {
         let parts = Parts::join(parts.into_iter().map(Ok))?;
         let made = parts.written().map_err(|e| Trouble::file(&self.path, e))?;
         let mut list = String::new();
@@ -83,19 +95,17 @@ impl Folder {
             let _ = writeln!(list, "# {digest}  {name}");
         }
         let path = self.path.join(LIST);
-        let list = Parts::fill(&path, force, |out| out.write_all(list.as_bytes()).map_err(|e| Trouble::file(&path, e)));
-        sheet::finish(Parts::join([list, Ok(parts)])?)?;
-        self.new.clear();
-        let left = replaced.iter().filter(|(_, name)| !made.iter().any(|(other, _)| other == name));
-        left.for_each(|(_, name)| drop(fs::remove_file(self.path.join(name))));
+        let list = Parts::fill(&path, self.force, |out| out.write_all(list.as_bytes()).map_err(|e| Trouble::file(&path, e)));
+        let all = Parts::join([list, Ok(parts)])?;
+        // Once more: the work may have taken a while.
+        self.judge()?;
+        sheet::finish(all)?;
+        for (_, name) in &replaced {
+            if !made.iter().any(|(other, _)| other == name) && self.made_of(name).is_some() {
+                let _ = fs::remove_file(self.path.join(name));
+            }
+        }
         Ok(())
-    }
-}
-
-impl Drop for Folder {
-    fn drop(&mut self) {
-        // Only empty ones go.
-        self.new.iter().for_each(|folder| drop(fs::remove_dir(folder)));
     }
 }
 

@@ -1,5 +1,6 @@
 //! Where outputs go, judged before any work is done: links followed; folders, pipes and devices refused; no two of one name.
 
+use crate::standing::{id, Id};
 use crate::trouble::{Outcome, Trouble};
 use std::ffi::CString;
 use std::fs::{self, Metadata};
@@ -16,9 +17,11 @@ pub struct Target {
     pub folder: PathBuf,
     pub place: PathBuf,
     /// The folder's own number, whatever its name.
-    pub folder_id: (u64, u64),
+    pub folder_id: Id,
     /// What stands there now.
     pub earlier: Option<Metadata>,
+    /// Whether a read-only file is replaced.
+    force: bool,
 }
 
 impl Target {
@@ -54,14 +57,23 @@ impl Target {
         if is_sticky && earlier.as_ref().is_some_and(|there| there.uid() != user) {
             return Err(Trouble::file(path, "another user's, in a folder where only its owner may replace it"));
         }
-        Ok(Target { shown: path.to_path_buf(), folder, place, folder_id: (around.dev(), around.ino()), earlier })
+        Ok(Target { shown: path.to_path_buf(), folder, place, folder_id: id(&around), earlier, force })
+    }
+
+    /// The place once more, when the output is to take its name: judged again, and the same.
+    pub fn again(&self) -> Outcome<Target> {
+        let target = Target::of(&self.shown, self.force)?;
+        if target.is_at(self) { Ok(target) } else { Err(Trouble::file(&self.shown, "its name leads elsewhere now")) }
+    }
+
+    fn is_at(&self, other: &Target) -> bool {
+        self.folder_id == other.folder_id && self.place.file_name() == other.place.file_name()
     }
 
     /// Whether two names mean one file, as far as the file system tells.
     fn is(&self, other: &Target) -> bool {
-        let same_file = |a: &Metadata, b: &Metadata| a.nlink() == 1 && (a.dev(), a.ino()) == (b.dev(), b.ino());
-        let same_place = self.folder_id == other.folder_id && self.place.file_name() == other.place.file_name();
-        same_place || matches!((&self.earlier, &other.earlier), (Some(a), Some(b)) if same_file(a, b))
+        let same_file = |a: &Metadata, b: &Metadata| a.nlink() == 1 && id(a) == id(b);
+        self.is_at(other) || matches!((&self.earlier, &other.earlier), (Some(a), Some(b)) if same_file(a, b))
     }
 }
 
@@ -79,7 +91,7 @@ pub fn judge(paths: &[PathBuf], force: bool) -> Outcome<()> {
 /// An output that is one of the inputs is wrong use: a scene arrives once.
 pub fn spare<'a>(paths: &[PathBuf], inputs: impl Iterator<Item = &'a Path> + Clone) -> Outcome<()> {
     let same = |a: &Path, b: &Path| match (fs::metadata(a), fs::metadata(b)) {
-        (Ok(a), Ok(b)) => (a.dev(), a.ino()) == (b.dev(), b.ino()),
+        (Ok(a), Ok(b)) => id(&a) == id(&b),
         _ => false,
     };
     match paths.iter().find(|path| inputs.clone().any(|input| same(path, input))) {

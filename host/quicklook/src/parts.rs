@@ -16,6 +16,7 @@ use std::os::unix::ffi::OsStrExt;
 use std::os::unix::fs::{MetadataExt, OpenOptionsExt};
 use std::os::unix::io::AsRawFd;
 use std::path::{Path, PathBuf};
+use std::time::{Duration, Instant};
 
 /// What the names of an output's part files begin with: by the output's name, which may be as long as a name can be.
 fn prefix(target: &Target) -> OsString {
@@ -26,10 +27,11 @@ fn prefix(target: &Target) -> OsString {
 
 const SUFFIX: &str = ".part";
 
-/// Whether a name is one of a part file.
+/// Whether a name is one of a part file: two times sixteen digits.
 pub fn is_part(name: &OsStr) -> bool {
-    let name = name.as_bytes();
-    name.starts_with(b".quicklook-") && name.ends_with(SUFFIX.as_bytes())
+    let digits = name.to_str().and_then(|name| name.strip_prefix(".quicklook-")?.strip_suffix(SUFFIX)?.split_once('-'));
+    let is_number = |word: &str| word.len() == 16 && word.bytes().all(|digit| digit.is_ascii_hexdigit());
+    digits.is_some_and(|(one, two)| is_number(one) && is_number(two))
 }
 
 /// A new name for a part file.
@@ -62,6 +64,20 @@ pub fn take(file: &File) -> io::Result<bool> {
     lock(file, libc::LOCK_EX)
 }
 
+/// Takes a file as soon as nobody holds it, if that is soon enough; `meanwhile` is done between two tries.
+pub fn take_within(file: &File, longest: Duration, mut meanwhile: impl FnMut()) -> bool {
+    let begun = Instant::now();
+    loop {
+        match take(file) {
+            Ok(false) if begun.elapsed() < longest => {
+                meanwhile();
+                std::thread::sleep(Duration::from_millis(2));
+            }
+            taken => return taken.unwrap_or(false),
+        }
+    }
+}
+
 /// A file that is only looked at: no link is followed, and nobody is waited for.
 pub fn look(path: &Path) -> io::Result<File> {
     look_as(path, false)
@@ -69,6 +85,10 @@ pub fn look(path: &Path) -> io::Result<File> {
 
 fn look_as(path: &Path, is_to_write: bool) -> io::Result<File> {
     OpenOptions::new().read(true).write(is_to_write).custom_flags(libc::O_NOFOLLOW | libc::O_NONBLOCK).open(path)
+}
+
+pub fn open_folder(path: &Path) -> io::Result<File> {
+    OpenOptions::new().read(true).custom_flags(libc::O_DIRECTORY).open(path)
 }
 
 /// Makes an output's part file, new and held. One that replaces an earlier file is nobody else's to read until it has its rights.
@@ -89,9 +109,13 @@ pub fn create(target: &Target) -> io::Result<(File, Fleeting)> {
     Err(io::Error::new(io::ErrorKind::AlreadyExists, "no free name for its part file"))
 }
 
-/// Removes the part files of this output whose processes are gone.
+/// Removes the part files of this output whose processes are gone, while nobody gives names in the folder.
 fn sweep(target: &Target) {
     let prefix = prefix(target);
+    let Ok(folder) = open_folder(&target.folder) else { return };
+    if !take_within(&folder, Duration::from_secs(1), || {}) {
+        return;
+    }
     let Ok(entries) = fs::read_dir(&target.folder) else { return };
     for entry in entries.flatten() {
         let name = entry.file_name();

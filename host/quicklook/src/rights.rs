@@ -27,9 +27,12 @@ fn set(file: &File, rights: u32) -> io::Result<()> {
     }
 }
 
-/// Those of any new file.
-pub fn give_new(file: &File) -> io::Result<()> {
-    set(file, 0o666 & !UMASK.load(SeqCst))
+/// Those of any new file in a folder, where that is known: a folder that has a list for new files says it in its own way.
+pub fn give_new(file: &File, folder: &Path) -> io::Result<()> {
+    match list(folder, FOLDER_LIST)? {
+        None => set(file, 0o666 & !UMASK.load(SeqCst)),
+        Some(_) => Ok(()),
+    }
 }
 
 /// Those of the earlier file at `place`, where that is allowed. What only a group or an owner might that the file cannot have, nobody may.
@@ -46,7 +49,7 @@ pub fn give_earlier(file: &File, earlier: &Metadata, place: &Path) -> io::Result
         rights &= 0o777;
     }
     let is_same_group = new.gid() == earlier.gid();
-    let list = access_list(place)?;
+    let list = list(place, ACCESS_LIST)?;
     if !is_same_group || list.is_some() {
         // Where there is a list these are rights of more than the group.
         rights = without_group(rights);
@@ -67,17 +70,18 @@ fn without_group(rights: u32) -> u32 {
 
 // SAFETY: the bytes end in their only NUL.
 const ACCESS_LIST: &CStr = unsafe { CStr::from_bytes_with_nul_unchecked(b"system.posix_acl_access\0") };
+const FOLDER_LIST: &CStr = unsafe { CStr::from_bytes_with_nul_unchecked(b"system.posix_acl_default\0") };
 
-/// A file's access list; none where it has none or the file system knows none.
-fn access_list(place: &Path) -> io::Result<Option<Vec<u8>>> {
+/// A list of a file or folder; none where it has none or the file system knows none.
+fn list(place: &Path, name: &CStr) -> io::Result<Option<Vec<u8>>> {
     const LONGEST: usize = 1 << 16;
     let place = CString::new(place.as_os_str().as_bytes())?;
     let mut list = vec![0u8; LONGEST];
-    match unsafe { libc::lgetxattr(place.as_ptr(), ACCESS_LIST.as_ptr(), list.as_mut_ptr().cast(), list.len()) } {
-        len if len > 0 => {
-            list.truncate(len as usize);
-            Ok(Some(list))
-        }
-        _ => Ok(None),
+    let len = unsafe { libc::lgetxattr(place.as_ptr(), name.as_ptr(), list.as_mut_ptr().cast(), list.len()) };
+    if len < 0 {
+        let error = io::Error::last_os_error();
+        return if matches!(error.raw_os_error(), Some(libc::ENODATA | libc::ENOTSUP | libc::ENOSYS)) { Ok(None) } else { Err(error) };
     }
+    list.truncate(len as usize);
+    Ok(Some(list).filter(|list| !list.is_empty()))
 }

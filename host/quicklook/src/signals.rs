@@ -3,14 +3,14 @@
 
 use crate::standing;
 use std::mem::zeroed;
-use std::os::raw::c_int;
+use std::os::raw::{c_int, c_void};
 use std::ptr::{null, null_mut};
 use std::sync::atomic::{AtomicI32, Ordering::SeqCst};
 
-/// All that end a program unless it handles them, but for faults of its own and those that nobody handles.
-const ENDING: [c_int; 13] = [
+/// All that end a program unless it handles them, but for wrong instructions and addresses and what nobody handles.
+const ENDING: [c_int; 16] = [
     libc::SIGHUP, libc::SIGINT, libc::SIGQUIT, libc::SIGTERM, libc::SIGXCPU, libc::SIGALRM, libc::SIGVTALRM, libc::SIGPROF, libc::SIGUSR1,
-    libc::SIGUSR2, libc::SIGIO, libc::SIGPWR, libc::SIGSTKFLT,
+    libc::SIGUSR2, libc::SIGIO, libc::SIGPWR, libc::SIGSTKFLT, libc::SIGABRT, libc::SIGSYS, libc::SIGTRAP,
 ];
 
 /// Where the program is; a positive number is the signal that came while outputs take their names.
@@ -26,9 +26,11 @@ pub fn start() {
         let mut before: libc::sigaction = unsafe { zeroed() };
         let is_ignored = unsafe { libc::sigaction(number, null(), &mut before) } == 0 && before.sa_sigaction == libc::SIG_IGN;
         if !is_ignored {
-            handle(number, ended);
+            handle(number, ended as *const () as usize, 0);
         }
     }
+    // Before there are threads, which take their mask from this one: a mapped input may ask for it.
+    unblock(libc::SIGBUS);
     unsafe {
         // A file that may grow no further is an error of the write.
         libc::signal(libc::SIGXFSZ, libc::SIG_IGN);
@@ -39,14 +41,13 @@ pub fn start() {
 
 /// A mapped input that is shortened while it is read ends the program as a file that cannot be read.
 pub fn expect_shortened() {
-    handle(libc::SIGBUS, shortened);
-    unblock(libc::SIGBUS);
+    handle(libc::SIGBUS, shortened as *const () as usize, libc::SA_SIGINFO);
 }
 
-fn handle(number: c_int, handler: extern "C" fn(c_int)) {
+fn handle(number: c_int, handler: usize, flags: c_int) {
     let mut action: libc::sigaction = unsafe { zeroed() };
-    action.sa_sigaction = handler as usize;
-    action.sa_flags = libc::SA_RESTART;
+    action.sa_sigaction = handler;
+    action.sa_flags = libc::SA_RESTART | flags;
     unsafe { libc::sigaction(number, &action, null_mut()) };
 }
 
@@ -88,7 +89,11 @@ fn end_by(number: c_int) -> ! {
     }
 }
 
-extern "C" fn shortened(_: c_int) {
+extern "C" fn shortened(number: c_int, info: *const libc::siginfo_t, _: *const c_void) {
+    // Sent by somebody, and not by a page that is not there.
+    if unsafe { (*info).si_code } <= 0 {
+        return ended(number);
+    }
     const TEXT: &[u8] = b"quicklook: an input was shortened while it was read; without --map that is told with its name\n";
     unsafe { libc::write(2, TEXT.as_ptr().cast(), TEXT.len()) };
     exit(crate::trouble::FILE_STATUS)
@@ -96,6 +101,7 @@ extern "C" fn shortened(_: c_int) {
 
 /// Ends at once, from anywhere, with what stands undone. A program whose outputs are all named has done its work, whatever comes then.
 pub fn exit(status: u8) -> ! {
+    let _ = STATE.compare_exchange(WORKING, OVER, SeqCst, SeqCst);
     standing::end();
     let status = if is_done() { 0 } else { status };
     unsafe { libc::_exit(c_int::from(status)) }

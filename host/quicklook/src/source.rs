@@ -392,6 +392,10 @@ fn read_npy<T: Plain>(bytes: &Bytes, head: &npy::Header, part: Part, take: impl 
 /// The plain files that a name of GDAL's own has in it, such as `/vsizip/scene.zip/vv.tif` or `/vsisubfile/0,scene.tif`.
 fn files_within(name: &str) -> Vec<PathBuf> {
     const MARKS: [char; 9] = ['/', ',', ':', '"', '=', '?', '&', '{', '}'];
+    const MOST_MARKS: usize = 100;
+    if name.matches(MARKS).count() > MOST_MARKS {
+        return Vec::new();
+    }
     let starts = std::iter::once(0).chain(name.match_indices(MARKS).flat_map(|(at, _)| [at, at + 1]));
     let ends: Vec<usize> = name.match_indices(MARKS).map(|(at, _)| at).chain([name.len()]).collect();
     let words = starts.flat_map(|start| ends.iter().filter(move |&&end| end > start).map(move |&end| &name[start..end]));

@@ -4,12 +4,15 @@
 use crate::signals;
 use std::cell::Cell;
 use std::ffi::CString;
+use std::fs::Metadata;
 use std::io;
+use std::mem::{ManuallyDrop, MaybeUninit};
 use std::os::raw::c_char;
 use std::os::unix::ffi::OsStrExt;
+use std::os::unix::fs::MetadataExt;
 use std::path::{Path, PathBuf};
 use std::ptr::null_mut;
-use std::sync::atomic::{AtomicBool, AtomicPtr, AtomicU8, AtomicUsize, Ordering::SeqCst};
+use std::sync::atomic::{AtomicBool, AtomicPtr, AtomicU64, AtomicU8, AtomicUsize, Ordering::SeqCst};
 
 /// A part file, or a second name of a file that has its own still: removed.
 const PART: u8 = 0;
@@ -17,17 +20,27 @@ const PART: u8 = 0;
 const EARLIER: u8 = 1;
 /// A new file in a place that was empty: removed, or left once all outputs are named.
 const NEW: u8 = 2;
+/// A new folder: removed if it is empty, or left once all outputs are named.
+const FOLDER: u8 = 3;
 
 struct Slot {
     path: AtomicPtr<c_char>,
-    /// Where an earlier file is put back.
+    /// The place of an output, and the file that this program has put there.
     place: AtomicPtr<c_char>,
+    device: AtomicU64,
+    inode: AtomicU64,
     kind: AtomicU8,
 }
 
 const MOST: usize = 256;
 static TABLE: [Slot; MOST] = {
-    const FREE: Slot = Slot { path: AtomicPtr::new(null_mut()), place: AtomicPtr::new(null_mut()), kind: AtomicU8::new(PART) };
+    const FREE: Slot = Slot {
+        path: AtomicPtr::new(null_mut()),
+        place: AtomicPtr::new(null_mut()),
+        device: AtomicU64::new(0),
+        inode: AtomicU64::new(0),
+        kind: AtomicU8::new(PART),
+    };
     [FREE; MOST]
 };
 
@@ -54,9 +67,9 @@ pub fn end() {
     undo_all();
 }
 
-/// Undoes everything that stands.
+/// Undoes everything that stands, files before the folders that were made for them.
 pub fn undo_all() {
-    for slot in &TABLE {
+    for slot in TABLE.iter().rev() {
         slot.undo();
     }
 }
@@ -69,13 +82,31 @@ impl Slot {
         if path.is_null() {
             return true;
         }
-        let is_undone = match self.kind.load(SeqCst) {
-            EARLIER if !signals::is_done() => unsafe { libc::rename(path, self.place.load(SeqCst)) == 0 },
-            NEW if signals::is_done() => true,
+        let is_undone = match (self.kind.load(SeqCst), signals::is_done()) {
+            (NEW | FOLDER, true) => true,
+            (NEW, false) if self.is_anothers() => true,
+            (FOLDER, false) => unsafe { libc::rmdir(path) == 0 },
+            (EARLIER, false) if !self.is_anothers() => unsafe { libc::rename(path, self.place.load(SeqCst)) == 0 },
             _ => unsafe { libc::unlink(path) == 0 },
         };
         self.free();
         is_undone
+    }
+
+    /// Whether another program has put a file of its own into the place since.
+    fn is_anothers(&self) -> bool {
+        let mut there = MaybeUninit::<libc::stat>::uninit();
+        if unsafe { libc::lstat(self.place.load(SeqCst), there.as_mut_ptr()) } != 0 {
+            return false;
+        }
+        let there = unsafe { there.assume_init() };
+        (there.st_dev, there.st_ino) != (self.device.load(SeqCst), self.inode.load(SeqCst))
+    }
+
+    fn put(&self, place: *mut c_char, (device, inode): Id) {
+        self.place.store(place, SeqCst);
+        self.device.store(device, SeqCst);
+        self.inode.store(inode, SeqCst);
     }
 
     fn free(&self) {
@@ -121,29 +152,50 @@ impl Fleeting {
         }
     }
 
-    /// The file is from now on an earlier one, whose place a new file has taken. Asks for no memory.
-    pub fn is_earlier(self, place: CString) -> Self {
-        TABLE[self.slot].place.store(place.into_raw(), SeqCst);
+    /// The file is from now on an earlier one, whose place the file `new` has taken. Asks for no memory.
+    pub fn is_earlier(self, place: CString, new: Id) -> Self {
+        TABLE[self.slot].put(place.into_raw(), new);
         TABLE[self.slot].kind.store(EARLIER, SeqCst);
         self
     }
 
-    /// The file has from now on the name of an output, and none stood there before. Asks for no memory.
-    pub fn is_new(self, place: CString) -> Self {
+    /// The file, which is `new`, has from now on the name of an output, and none stood there before. Asks for no memory.
+    pub fn is_new(self, place: CString, new: Id) -> Self {
+        let place = place.into_raw();
+        TABLE[self.slot].put(place, new);
+        TABLE[self.slot].path.store(place, SeqCst);
         TABLE[self.slot].kind.store(NEW, SeqCst);
-        TABLE[self.slot].path.store(place.into_raw(), SeqCst);
         self
+    }
+
+    /// The file is from now on a part file again.
+    pub fn is_part(&self) {
+        TABLE[self.slot].kind.store(PART, SeqCst);
+    }
+
+    /// A folder, made by this.
+    pub fn folder(path: PathBuf) -> io::Result<Self> {
+        let folder = Fleeting::new(path)?;
+        TABLE[folder.slot].kind.store(FOLDER, SeqCst);
+        folder.made(|path| std::fs::create_dir(path)).map(|((), folder)| folder)
     }
 
     /// Whether the file could be undone.
     pub fn undone(self) -> bool {
-        TABLE[self.slot].undo()
+        TABLE[ManuallyDrop::new(self).slot].undo()
     }
 
     /// There is nothing to undo any more.
     pub fn keep(self) {
-        TABLE[self.slot].free();
+        TABLE[ManuallyDrop::new(self).slot].free();
     }
+}
+
+/// A file's own number, whatever its name.
+pub type Id = (u64, u64);
+
+pub fn id(there: &Metadata) -> Id {
+    (there.dev(), there.ino())
 }
 
 impl Drop for Fleeting {
