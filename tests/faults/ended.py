@@ -1,4 +1,5 @@
 """Ended from outside: signals, kill -9 at random times, several runs at once."""
+import fcntl
 import os
 import random
 import signal
@@ -144,12 +145,18 @@ class Ended(Case):
         killed = self.run_(*words, environment={"FAULT": "exchange:2:0", "FAULT_KILL": "1"})
         self.assertEqual(killed.returncode, -9)
         self.assertEqual(len(self.left()), 3)
-        slow = self.slowly(words, "exchange:2", 6)
+        self.put_earlier(names)
+        # Another program has the earlier file locked when the run that names would hold it.
+        with open(self.folder / names[0], "rb") as file:
+            fcntl.flock(file, fcntl.LOCK_EX)
+            slow = self.slowly(words, "exchange:2", 10)
         other = self.start(words)
-        time.sleep(2)
+        time.sleep(3)
+        other.kill()
+        other.wait()
         slow.send_signal(signal.SIGTERM)
         self.assertEqual(self.ends(slow)[0], -signal.SIGTERM)
-        self.assertEqual(other.wait(timeout=60), 0)
+        self.assertEqual(self.bytes_of(names), [EARLIER] * 3)
         self.done(*words)
         self.assertEqual(self.left(), [])
 
