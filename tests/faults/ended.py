@@ -5,6 +5,7 @@ import random
 import signal
 import subprocess
 import time
+import unittest
 
 from faults.common import EARLIER, FORMATS, PROGRAM, Case, shim
 
@@ -199,6 +200,24 @@ class Ended(Case):
                 self.assertIn((self.folder / names[0]).read_bytes(), [whole[0] for _, whole in results])
             self.assertEqual([process.returncode for process in running], [0] * len(running))
             self.assertIn(self.bytes_of(names), [whole for _, whole in results])
+            self.assertEqual(self.left(), [])
+
+    @unittest.skipUnless(os.geteuid() == 0, "only root makes containers")
+    def test_several_of_one_process_number(self):
+        """As in containers that share a folder: each run is process 1 of its own."""
+        container = ["unshare", "--pid", "--fork", "--kill-child"]
+        if subprocess.run([*container, "true"], capture_output=True).returncode:
+            self.skipTest("no containers here")
+        results = []
+        for strategy in ("default", "robust", "tamed"):
+            words = [*self.words("npy"), "--strategy", strategy]
+            self.done(*words)
+            results.append((words, self.bytes_of(FORMATS["npy"])))
+        for _ in range(20):
+            running = [subprocess.Popen([*container, PROGRAM, *words], cwd=self.folder, stdin=subprocess.DEVNULL, stdout=subprocess.DEVNULL, stderr=subprocess.DEVNULL)
+                       for words, _ in results for _ in range(2)]
+            self.assertEqual([process.wait(timeout=60) for process in running], [0] * len(running))
+            self.assertIn(self.bytes_of(FORMATS["npy"]), [whole for _, whole in results])
             self.assertEqual(self.left(), [])
 
     def test_gdals_process_ends_with_the_program(self):

@@ -39,6 +39,27 @@ class Limits(Case):
             if form in ("npy", "png"):
                 self.assertEqual(seen, {0, 71}, form)
 
+    def test_memory_while_names_are_given(self):
+        """It ends before or after any of the moves: 71 and all as before, or all outputs are there."""
+        names, words = FORMATS["npy"], self.words("npy")
+        self.done(*words)
+        new = self.bytes_of(names)
+        seen = set()
+        for way, places in (("exchange", (1, 2, 3)), ("fsync", (3, 4)), ("unlink", (1, 2, 3))):
+            for place in places:
+                for is_there in (True, False):
+                    self.clear(names)
+                    if is_there:
+                        self.put_earlier(names)
+                    result = self.run_(*words, environment={"FAULT": f"{way}:{place}:0", "FAULT_NO_MEMORY": "1"})
+                    case = (way, place, is_there, result.returncode, result.stderr)
+                    self.assertIn(result.returncode, (0, 71), case)
+                    self.assertEqual(self.bytes_of(names), [EARLIER if is_there else None] * 3 if result.returncode else new, case)
+                    self.assertEqual(self.left(), [], case)
+                    seen.add((way, result.returncode))
+        self.assertIn(("exchange", 71), seen)
+        self.assertIn(("unlink", 0), seen)
+
     def test_file_size(self):
         """A file that may grow no further is an error of the write, whatever the program inherits for SIGXFSZ."""
         for form in ("npy", "png", "tif", "html"):

@@ -1,7 +1,7 @@
 /* Faults for the program quicklook, by LD_PRELOAD; its GDAL process is left alone.
  *   FAULT=FUNCTION:N:ERRNO   the Nth call of a C function fails; with N* that one and all after it; several with commas. With
  *                            FAULT_KILL=1 it ends the program as kill -9 does, with FAULT_WAIT=SECONDS it takes its time and does not fail;
- *                            the file FAULT_MARK is made when it begins to
+ *                            the file FAULT_MARK is made when it begins to; with FAULT_NO_MEMORY=1 it is done, and from there on there is no memory
  *   FAULT_COUNTS=FILE        how often each function was called
  *   FAULT_RANDOM=1           random numbers are all 0
  *   FAULT_FLOAT=up|flush|trap   every thread begins in another floating-point environment */
@@ -29,6 +29,7 @@ static const char *const NAMES[CALLS] = { "open", "write", "read", "pread", "fsy
 static atomic_int count[CALLS];
 static struct { int at, is_for_ever, number; } faults[CALLS];
 static int is_meant;
+static atomic_int is_without_memory;
 static unsigned float_mode;
 
 static void set_float(void)
@@ -69,6 +70,10 @@ static int is_due(enum call call)
     int n = ++count[call];
     if (!faults[call].at || n < faults[call].at || (n > faults[call].at && !faults[call].is_for_ever)) return 0;
     if (getenv("FAULT_KILL")) raise(SIGKILL);
+    if (getenv("FAULT_NO_MEMORY")) {
+        is_without_memory = 1;
+        return 0;
+    }
     if (getenv("FAULT_WAIT")) {
         const char *mark = getenv("FAULT_MARK");
         if (mark) syscall(SYS_close, syscall(SYS_openat, AT_FDCWD, mark, O_CREAT | O_WRONLY, 0600));
@@ -110,6 +115,11 @@ int posix_spawnp(pid_t *process, const char *path, const posix_spawn_file_action
 {
     return is_due(SPAWN) ? faults[SPAWN].number : REAL(posix_spawnp)(process, path, actions, attributes, words, environment);
 }
+
+extern void *__libc_malloc(size_t), *__libc_calloc(size_t, size_t), *__libc_realloc(void *, size_t);
+void *malloc(size_t len) { return is_without_memory ? NULL : __libc_malloc(len); }
+void *calloc(size_t count, size_t len) { return is_without_memory ? NULL : __libc_calloc(count, len); }
+void *realloc(void *old, size_t len) { return is_without_memory ? NULL : __libc_realloc(old, len); }
 
 struct start { void *(*run)(void *); void *with; };
 
