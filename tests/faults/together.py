@@ -164,6 +164,7 @@ class Together(Case):
                     status, told = self.ends(process)
                     case = (is_there, put, at, where, status, told)
                     self.assertEqual(status, 74 if at == 1 else -signal.SIGTERM, case)
+                    self.assertIn("another file took its name" if at == 1 else "", told, case)
                     self.assertEqual(os.lstat(path).st_ino, there, case)
                     for name in names:
                         if name != names[where]:

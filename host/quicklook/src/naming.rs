@@ -91,6 +91,7 @@ impl Ready {
                     unchanged(&target, None)?;
                     fs::rename(&standing.path, &target.place)?;
                 }
+                Err(e) if e.kind() == io::ErrorKind::AlreadyExists => return Err(taken()),
                 moved => moved?,
             }
             return Ok(Named { shown, way_back: standing.is_new(place, new), had_earlier: false, _held: [Some(file), None] });
