@@ -22,7 +22,7 @@ use Rattle.spec.specs.Pixels.{Pixel}
 use Rattle.spec.specs.Strategies.{isClahe}
 use Rattle.spec.specs.Stretch.{stretchByte, stretch}
 use Rattle.spec.specs.Value.{paint}
-use Rattle.spec.specs.Window.{otherGamma}
+use Rattle.spec.specs.Window.{gammaRefused}
 use Rattle.autoscale.specs.Painted.{plainValues, leaving, painting}
 
 -- outside Clahe neither the strategy nor the sides matter
@@ -51,13 +51,13 @@ module _ (w : WindowAnswer) (low high range gamma : Float) (is : w ≡ Window lo
   unfolding answer orRefused
   gamma-not-painted e greys = by-gamma false e greys
 
-  pub gamma-other : not (eq gamma one64) ≡ otherGamma w
-  unfolding otherGamma ne
-  gamma-other = sym (ap otherGamma is)
+  pub gamma-other : not (eq gamma one64) ≡ gammaRefused w
+  unfolding gammaRefused ne
+  gamma-other = sym (ap gammaRefused is)
 
 -- ---- no window
-pub no-gamma : (w : WindowAnswer) → OneOf (1 ∷ 2 ∷ []) (tagOf the-type w) → false ≡ otherGamma w
-unfolding otherGamma
+pub no-gamma : (w : WindowAnswer) → OneOf (1 ∷ 2 ∷ []) (tagOf the-type w) → false ≡ gammaRefused w
+unfolding gammaRefused
 no-gamma (Window low high range gamma) h = absurd (miss (1 ∷ 2 ∷ []) 0 tt h)
 no-gamma Blank h = refl
 no-gamma (Refused k) h = refl

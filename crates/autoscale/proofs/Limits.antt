@@ -10,19 +10,19 @@ use Rattle.types.specs.declared.AutoscaleStrategy.{AutoscaleStrategy}
 use Rattle.types.specs.declared.AutoscaleStrategy.the-variants.{Standard, Robust, Adaptive, Equalized, Clahe, Tamed, Default}
 use Rattle.types.specs.declared.Clip.{Clip}
 use Rattle.types.specs.declared.HistogramStats.{HistogramStats}
-use Rattle.spec.specs.Floats.{zero64, half64, one64, two64, larger, magnitude}
-use Rattle.spec.specs.Window.{between, inside, narrow, outlier, heavy, wide, normal, standard, robust, skewOf, tailOf, adaptive, tamed, chosen, opened, windowOf, pictureWindow, gamma08, gamma09, gamma11}
+use Rattle.spec.specs.Floats.{zero64, half64, one64, two64, maxFloat, absFloat}
+use Rattle.spec.specs.Window.{between, validRange, lowContrastClip, outlier, heavyTailedClip, highRangeClip, normalClip, standardClip, robustClip, skewFactor, tailHeaviness, adaptiveClip, tamedClip, chooseClip, opened, windowOf, pictureWindow, gamma08, gamma09, gamma11}
 use Rattle.types.specs.declared.WindowAnswer.{WindowAnswer}
 use Rattle.types.specs.declared.WindowAnswer.the-variants.{Window, Blank, Refused}
 use Rattle.spec.specs.Strategies.{isTamed}
 use Rattle.spec.specs.Pixels.{pixels}
-use Rattle.spec.specs.Refusals.{badDecibel}
+use Rattle.spec.specs.Refusals.{decibelsRefused}
 use Rattle.spec.specs.Statistics.{statisticsOf}
 use Rattle.histogram.proofs.Bounds.{Bounded, statistics-bounded}
 use Rattle.histogram.proofs.Welford.{Each}
 use Rattle.numeric.proofs.Order.{Number}
-use Rattle.numeric.proofs.Picks.{above-larger}
-use Rattle.numeric.proofs.Within.{Within, within-lit, within-weaken, add-within, sub-within, mul-within, div-one-within, larger-within, smaller-within}
+use Rattle.numeric.proofs.Picks.{above-max}
+use Rattle.numeric.proofs.Within.{Within, within-lit, within-weaken, add-within, sub-within, mul-within, div-one-within, maxFloat-within, minFloat-within}
 
 -- both ends of a clip
 pub record Limited (n : ℕ) (c : Clip) : Type 0 where
@@ -84,79 +84,79 @@ module _ (s : HistogramStats) (b : Bounded s) where
   wider : (x : Float) → Within 5096 x → Within 35672 x
   wider x w = within-weaken x (lit≤ tt) w
 
-  inside-limited : (low high gamma : Float) → Within 35672 low → Within 35672 high → Limited 35672 (inside s low high gamma)
-  unfolding inside
-  inside-limited low high gamma p q = record { low-within = larger-within low (s .«min_db») p least-within; high-within = smaller-within high (s .«max_db») q greatest-within }
+  validRange-limited : (low high gamma : Float) → Within 35672 low → Within 35672 high → Limited 35672 (validRange s low high gamma)
+  unfolding validRange
+  validRange-limited low high gamma p q = record { low-within = maxFloat-within low (s .«min_db») p least-within; high-within = minFloat-within high (s .«max_db») q greatest-within }
 
-  narrow-limited : Limited 35672 (narrow s spread)
-  unfolding narrow
-  narrow-limited =
-      let r = larger (ofBits binary64 0x4034_0000_0000_0000) (mul binary64 spread (ofBits binary64 0x3fe9_9999_9999_999a)) in
-      let w : Within 2000 r = larger-within (ofBits binary64 0x4034_0000_0000_0000) (mul binary64 spread (ofBits binary64 0x3fe9_9999_9999_999a)) twenty
+  lowContrastClip-limited : Limited 35672 (lowContrastClip s spread)
+  unfolding lowContrastClip
+  lowContrastClip-limited =
+      let r = maxFloat (ofBits binary64 0x4034_0000_0000_0000) (mul binary64 spread (ofBits binary64 0x3fe9_9999_9999_999a)) in
+      let w : Within 2000 r = maxFloat-within (ofBits binary64 0x4034_0000_0000_0000) (mul binary64 spread (ofBits binary64 0x3fe9_9999_9999_999a)) twenty
       (mul-within binary64 2000 1 (lit≤ tt) spread (ofBits binary64 0x3fe9_9999_9999_999a) spread-within eight-tenths) in
       let h = half-of 2000 (lit≤ tt) r w in
-      inside-limited _ _ _
+      validRange-limited _ _ _
       (within-weaken _ (lit≤ tt) (sub-within binary64 5096 2000 (lit≤ tt) (s .«median_db») (div binary64 r two64) (b .percentiles .median) h))
       (within-weaken _ (lit≤ tt) (add-within binary64 5096 2000 (lit≤ tt) (s .«median_db») (div binary64 r two64) (b .percentiles .median) h))
 
-  heavy-limited : Limited 35672 (heavy s iqr)
-  unfolding heavy
-  heavy-limited =
-      inside-limited _ _ _
+  heavyTailedClip-limited : Limited 35672 (heavyTailedClip s iqr)
+  unfolding heavyTailedClip
+  heavyTailedClip-limited =
+      validRange-limited _ _ _
       (sub-within binary64 5096 30576 (lit≤ tt) (s .p25) (outlier iqr) (b .percentiles .p25) reach-within)
       (add-within binary64 5096 30576 (lit≤ tt) (s .p75) (outlier iqr) (b .percentiles .p75) reach-within)
 
-  wide-limited : Limited 35672 (wide s spread)
-  unfolding wide
-  wide-limited =
+  highRangeClip-limited : Limited 35672 (highRangeClip s spread)
+  unfolding highRangeClip
+  highRangeClip-limited =
       let margin = mul binary64 (ofBits binary64 0x3f94_7ae1_47ae_147b) spread in
       let m : Within 2000 margin = mul-within binary64 1 2000 (lit≤ tt) (ofBits binary64 0x3f94_7ae1_47ae_147b) spread hundredths spread-within in
-      inside-limited _ _ _
-      (larger-within (s .p02) (add binary64 (s .«min_db») margin) (wider (s .p02) (b .percentiles .p02)) (within-weaken _ (lit≤ tt) (add-within binary64 1000 2000 (lit≤ tt) (s .«min_db») margin (b .least) m)))
-      (smaller-within (s .p98) (sub binary64 (s .«max_db») margin) (wider (s .p98) (b .percentiles .p98)) (within-weaken _ (lit≤ tt) (sub-within binary64 1000 2000 (lit≤ tt) (s .«max_db») margin (b .greatest) m)))
+      validRange-limited _ _ _
+      (maxFloat-within (s .p02) (add binary64 (s .«min_db») margin) (wider (s .p02) (b .percentiles .p02)) (within-weaken _ (lit≤ tt) (add-within binary64 1000 2000 (lit≤ tt) (s .«min_db») margin (b .least) m)))
+      (minFloat-within (s .p98) (sub binary64 (s .«max_db») margin) (wider (s .p98) (b .percentiles .p98)) (within-weaken _ (lit≤ tt) (sub-within binary64 1000 2000 (lit≤ tt) (s .«max_db») margin (b .greatest) m)))
 
-  normal-limited : Limited 35672 (normal s)
-  unfolding normal
-  normal-limited = inside-limited (s .p02) (s .p98) one64 (wider (s .p02) (b .percentiles .p02)) (wider (s .p98) (b .percentiles .p98))
+  normalClip-limited : Limited 35672 (normalClip s)
+  unfolding normalClip
+  normalClip-limited = validRange-limited (s .p02) (s .p98) one64 (wider (s .p02) (b .percentiles .p02)) (wider (s .p98) (b .percentiles .p98))
 
-  standard-limited : Limited 35672 (standard s)
-  unfolding standard
-  standard-limited =
-      either 35672 (lt spread (ofBits binary64 0x402e_0000_0000_0000)) _ _ narrow-limited (either 35672 (lt iqr (ofBits binary64 0x4014_0000_0000_0000)) _ _ heavy-limited
-      (either 35672 (lt (ofBits binary64 0x4044_0000_0000_0000) spread) _ _ wide-limited normal-limited))
+  standardClip-limited : Limited 35672 (standardClip s)
+  unfolding standardClip
+  standardClip-limited =
+      either 35672 (lt spread (ofBits binary64 0x402e_0000_0000_0000)) _ _ lowContrastClip-limited (either 35672 (lt iqr (ofBits binary64 0x4014_0000_0000_0000)) _ _ heavyTailedClip-limited
+      (either 35672 (lt (ofBits binary64 0x4044_0000_0000_0000) spread) _ _ highRangeClip-limited normalClip-limited))
 
-  robust-limited : Limited 35672 (robust s)
-  unfolding robust
-  robust-limited =
+  robustClip-limited : Limited 35672 (robustClip s)
+  unfolding robustClip
+  robustClip-limited =
       record {
-        low-within = larger-within _ (s .«min_db») (larger-within _ (s .p01) (sub-within binary64 5096 30576 (lit≤ tt) (s .p25) (outlier iqr) (b .percentiles .p25) reach-within) (wider (s .p01) (b .percentiles .p01))) least-within;
-        high-within = smaller-within _ (s .«max_db») (smaller-within _ (s .p99) (add-within binary64 5096 30576 (lit≤ tt) (s .p75) (outlier iqr) (b .percentiles .p75) reach-within) (wider (s .p99) (b .percentiles .p99))) greatest-within;
+        low-within = maxFloat-within _ (s .«min_db») (maxFloat-within _ (s .p01) (sub-within binary64 5096 30576 (lit≤ tt) (s .p25) (outlier iqr) (b .percentiles .p25) reach-within) (wider (s .p01) (b .percentiles .p01))) least-within;
+        high-within = minFloat-within _ (s .«max_db») (minFloat-within _ (s .p99) (add-within binary64 5096 30576 (lit≤ tt) (s .p75) (outlier iqr) (b .percentiles .p75) reach-within) (wider (s .p99) (b .percentiles .p99))) greatest-within;
       }
 
   ends-limited : (low high gamma : Float) → Within 5096 low → Within 5096 high → Limited 35672 (between low high gamma)
   ends-limited low high gamma p q = record { low-within = wider low p; high-within = wider high q }
 
-  adaptive-limited : Limited 35672 (adaptive s)
-  unfolding adaptive
-  adaptive-limited =
-      either 35672 (lt half64 (magnitude (skewOf s))) _ _
-      (either 35672 (lt zero64 (skewOf s)) _ _ (ends-limited _ _ gamma09 (b .percentiles .p02) (b .percentiles .p98)) (ends-limited _ _ gamma11 (b .percentiles .p05) (b .percentiles .p95)))
-      (either 35672 (lt two64 (tailOf s)) _ _ (ends-limited _ _ gamma08 (b .percentiles .p10) (b .percentiles .p90)) (ends-limited _ _ one64 (b .percentiles .p05) (b .percentiles .p95)))
+  adaptiveClip-limited : Limited 35672 (adaptiveClip s)
+  unfolding adaptiveClip
+  adaptiveClip-limited =
+      either 35672 (lt half64 (absFloat (skewFactor s))) _ _
+      (either 35672 (lt zero64 (skewFactor s)) _ _ (ends-limited _ _ gamma09 (b .percentiles .p02) (b .percentiles .p98)) (ends-limited _ _ gamma11 (b .percentiles .p05) (b .percentiles .p95)))
+      (either 35672 (lt two64 (tailHeaviness s)) _ _ (ends-limited _ _ gamma08 (b .percentiles .p10) (b .percentiles .p90)) (ends-limited _ _ one64 (b .percentiles .p05) (b .percentiles .p95)))
 
-  pub chosen-limited : (strategy : AutoscaleStrategy) → Limited 35672 (chosen strategy s)
-  unfolding chosen
-  chosen-limited Standard = standard-limited
-  chosen-limited Robust = robust-limited
-  chosen-limited Adaptive = adaptive-limited
-  chosen-limited Equalized = ends-limited _ _ one64 (b .percentiles .p01) (b .percentiles .p99)
-  chosen-limited Clahe = ends-limited _ _ one64 (b .percentiles .p01) (b .percentiles .p99)
-  chosen-limited Tamed = ends-limited _ _ one64 (b .percentiles .p25) (b .percentiles .p99)
-  chosen-limited Default = ends-limited _ _ one64 (b .percentiles .p05) (b .percentiles .p95)
+  pub chooseClip-limited : (strategy : AutoscaleStrategy) → Limited 35672 (chooseClip strategy s)
+  unfolding chooseClip
+  chooseClip-limited Standard = standardClip-limited
+  chooseClip-limited Robust = robustClip-limited
+  chooseClip-limited Adaptive = adaptiveClip-limited
+  chooseClip-limited Equalized = ends-limited _ _ one64 (b .percentiles .p01) (b .percentiles .p99)
+  chooseClip-limited Clahe = ends-limited _ _ one64 (b .percentiles .p01) (b .percentiles .p99)
+  chooseClip-limited Tamed = ends-limited _ _ one64 (b .percentiles .p25) (b .percentiles .p99)
+  chooseClip-limited Default = ends-limited _ _ one64 (b .percentiles .p05) (b .percentiles .p95)
 
-  pub tamed-limited : (copol : Bool) → Limited 35672 (tamed copol s)
-  unfolding tamed
-  tamed-limited true = ends-limited _ _ one64 (smaller-within (s .p02) (s .p05) (b .percentiles .p02) (b .percentiles .p05)) (b .percentiles .p99)
-  tamed-limited false = ends-limited _ _ one64 (b .percentiles .p05) (b .percentiles .p99)
+  pub tamedClip-limited : (copol : Bool) → Limited 35672 (tamedClip copol s)
+  unfolding tamedClip
+  tamedClip-limited true = ends-limited _ _ one64 (minFloat-within (s .p02) (s .p05) (b .percentiles .p02) (b .percentiles .p05)) (b .percentiles .p99)
+  tamedClip-limited false = ends-limited _ _ one64 (b .percentiles .p05) (b .percentiles .p99)
 
 -- ---- the windows
 
@@ -188,9 +188,9 @@ limited-window c l =
       low-finite = within-weaken (c .low) (lit≤ tt) (l .low-within);
       high-finite = within-weaken (c .high) (lit≤ tt) (l .high-within);
       range-finite =
-          within-weaken (larger (sub binary64 (c .high) (c .low)) one64) (lit≤ tt)
-          (larger-within (sub binary64 (c .high) (c .low)) one64 (sub-within binary64 35672 35672 (lit≤ tt) (c .high) (c .low) (l .high-within) (l .low-within)) one-within);
-      range-one = above-larger (sub binary64 (c .high) (c .low)) one64 one-number;
+          within-weaken (maxFloat (sub binary64 (c .high) (c .low)) one64) (lit≤ tt)
+          (maxFloat-within (sub binary64 (c .high) (c .low)) one64 (sub-within binary64 35672 35672 (lit≤ tt) (c .high) (c .low) (l .high-within) (l .low-within)) one-within);
+      range-one = above-max (sub binary64 (c .high) (c .low)) one64 one-number;
     }
 
 blank-or : (b : Bool) (w : WindowAnswer) → Limits w → Limits (cond b Blank w)
@@ -199,16 +199,16 @@ blank-or false w o = o
 
 pub window-limits : (strategy : AutoscaleStrategy) (s : HistogramStats) → Bounded s → Limits (windowOf strategy s)
 unfolding windowOf
-window-limits strategy s b = blank-or (eqb (s .«valid_count») 0) (opened (chosen strategy s)) (limited-window (chosen strategy s) (chosen-limited s b strategy))
+window-limits strategy s b = blank-or (eqb (s .«valid_count») 0) (opened (chooseClip strategy s)) (limited-window (chooseClip strategy s) (chooseClip-limited s b strategy))
 
 pub picture-limits : (strategy : AutoscaleStrategy) (copol : Bool) (s : HistogramStats) → Bounded s → Limits (pictureWindow strategy copol s)
 unfolding pictureWindow
 picture-limits strategy copol s b =
-    let c = cond (isTamed strategy) (tamed copol s) (chosen strategy s) in
-    blank-or (eqb (s .«valid_count») 0) (opened c) (limited-window c (either 35672 (isTamed strategy) _ _ (tamed-limited s b copol) (chosen-limited s b strategy)))
+    let c = cond (isTamed strategy) (tamedClip copol s) (chooseClip strategy s) in
+    blank-or (eqb (s .«valid_count») 0) (opened c) (limited-window c (either 35672 (isTamed strategy) _ _ (tamedClip-limited s b copol) (chooseClip-limited s b strategy)))
 
 -- ---- an accepted band: at most 16,777,216 f64s, the valid ones within 1,000
-module _ (m : List ℕ) (d : List Float) (l : length d ≤ 16777216) (f : Each (λ v. T (fits binary64 v)) d) (e : badDecibel (pixels m d) ≡ false) where
+module _ (m : List ℕ) (d : List Float) (l : length d ≤ 16777216) (f : Each (λ v. T (fits binary64 v)) d) (e : decibelsRefused (pixels m d) ≡ false) where
   pub accepted-window : (strategy : AutoscaleStrategy) → Limits (windowOf strategy (statisticsOf (pixels m d)))
   accepted-window strategy = window-limits strategy (statisticsOf (pixels m d)) (statistics-bounded m d l f e)
 

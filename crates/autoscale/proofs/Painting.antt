@@ -11,11 +11,11 @@ use lib.Dec.{T, eqb}
 use lib.ListN.{length, take, set, getD}
 use lib.Seq.{getD-drop, take-suc-set}
 use lib.Ieee.{Float, nan, le, ofBits, toUnsigned}
-use Rattle.spec.specs.Floats.{zero64, held}
+use Rattle.spec.specs.Floats.{zero64, clampFloat}
 use Rattle.spec.specs.Lists.{lowest, highest}
 use Rattle.spec.specs.Pixels.{Pixel, off, pixel, pixels}
 use Rattle.spec.specs.Value.{full8, full16, valueOf, paint}
-use Rattle.numeric.proofs.Small.{held-small, held-cut}
+use Rattle.numeric.proofs.Small.{clampFloat-small, clampFloat-cut}
 use Rattle.raster.proofs.Bands.{drop-pixels}
 
 -- ---- one value: what is cut lies within 0..255 or 0..65535
@@ -35,19 +35,19 @@ full16-full16 : T (le full16 full16)
 unfolding ofBits le
 full16-full16 = tt
 
-pub small8 : (x : Float) → T (le zero64 (held zero64 full8 x)) × T (le (held zero64 full8 x) full16)
-small8 x = held-small full8 x zero-full8 full8-full16
+pub small8 : (x : Float) → T (le zero64 (clampFloat zero64 full8 x)) × T (le (clampFloat zero64 full8 x) full16)
+small8 x = clampFloat-small full8 x zero-full8 full8-full16
 
-pub small16 : (x : Float) → T (le zero64 (held zero64 full16 x)) × T (le (held zero64 full16 x) full16)
-small16 x = held-small full16 x zero-full16 full16-full16
+pub small16 : (x : Float) → T (le zero64 (clampFloat zero64 full16 x)) × T (le (clampFloat zero64 full16 x) full16)
+small16 x = clampFloat-small full16 x zero-full16 full16-full16
 
-pub cut8 : (x : Float) → toUnsigned 64 (held zero64 full8 x) ≤ 255
+pub cut8 : (x : Float) → toUnsigned 64 (clampFloat zero64 full8 x) ≤ 255
 unfolding toUnsigned ofBits
-cut8 x = held-cut full8 x zero-full8
+cut8 x = clampFloat-cut full8 x zero-full8
 
-pub cut16 : (x : Float) → toUnsigned 64 (held zero64 full16 x) ≤ 65535
+pub cut16 : (x : Float) → toUnsigned 64 (clampFloat zero64 full16 x) ≤ 65535
 unfolding toUnsigned ofBits
-cut16 x = held-cut full16 x zero-full16
+cut16 x = clampFloat-cut full16 x zero-full16
 
 -- ---- one pixel
 pub paint-pixel : (full low high range : Float) (m : ℕ) (v : Float) → cond (eqb m 0) 0 (valueOf full low high range v) ≡ paint full low high range (pixel m v)

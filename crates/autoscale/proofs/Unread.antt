@@ -14,13 +14,13 @@ use Rattle.spec.specs.Pixels.{Pixel, validOf}
 use Rattle.spec.specs.Statistics.{deviationOf, summary, summaryOf, statisticsOf}
 use Rattle.spec.specs.Strategies.{isTamed}
 use Rattle.spec.specs.Floats.{zero64}
-use Rattle.spec.specs.Window.{inside, narrow, heavy, wide, normal, standard, robust, tamed, chosen, windowOf, pictureWindow}
+use Rattle.spec.specs.Window.{validRange, lowContrastClip, heavyTailedClip, highRangeClip, normalClip, standardClip, robustClip, tamedClip, chooseClip, windowOf, pictureWindow}
 use Rattle.histogram.specs.Extremes.{extremesFrom, withMean}
 use Rattle.histogram.proofs.Extremes.{summary-extremes}
 use Rattle.autoscale.specs.Bands.{readsMean, statsFor}
 
 pub window-unread : (strategy : AutoscaleStrategy) → readsMean strategy ≡ false → (mean deviation : Float) (s : HistogramStats) → windowOf strategy (withMean mean deviation s) ≡ windowOf strategy s
-unfolding readsMean withMean windowOf chosen standard robust inside narrow heavy wide normal
+unfolding readsMean withMean windowOf chooseClip standardClip robustClip validRange lowContrastClip heavyTailedClip highRangeClip normalClip
 window-unread Standard e m d s = refl
 window-unread Robust e m d s = refl
 window-unread Adaptive e m d s = absurd (true≢false e)
@@ -31,7 +31,7 @@ window-unread Default e m d s = refl
 
 pub picture-unread : (strategy : AutoscaleStrategy) (copol : Bool) → readsMean strategy ≡ false → (mean deviation : Float) (s : HistogramStats) →
     pictureWindow strategy copol (withMean mean deviation s) ≡ pictureWindow strategy copol s
-unfolding readsMean withMean pictureWindow isTamed tamed chosen standard robust inside narrow heavy wide normal
+unfolding readsMean withMean pictureWindow isTamed tamedClip chooseClip standardClip robustClip validRange lowContrastClip heavyTailedClip highRangeClip normalClip
 picture-unread Standard copol e m d s = refl
 picture-unread Robust copol e m d s = refl
 picture-unread Adaptive copol e m d s = absurd (true≢false e)

@@ -14,28 +14,28 @@ use Rattle.types.specs.declared.WindowAnswer.the-variants.{Refused}
 use Rattle.spec.specs.Answer.{Answer, refused, firstOf, orRefused}
 use Rattle.spec.specs.Moments.{noMoments, momentsFrom}
 use Rattle.spec.specs.Pixels.{Pixel, pixels, validOf}
-use Rattle.spec.specs.Refusals.{tooWide, notNamed, badMark, badDecibel}
+use Rattle.spec.specs.Refusals.{sidesRefused, lengthsRefused, marksRefused, decibelsRefused}
 use Rattle.spec.specs.Statistics.{summary, summaryOf, statisticsOf}
-use Rattle.spec.specs.Window.{windowOf, pictureWindow, readWindow, windowCall}
+use Rattle.spec.specs.Window.{windowOf, pictureWindow, readWindow, autoscaleWindow}
 use Rattle.raster.proofs.Bands.{first-stays, first-later, first-here, first-not-here, first-none}
 use Rattle.histogram.specs.declared.moments.FirstPass.{FirstPass}
 use Rattle.histogram.specs.declared.moments.FirstPass.the-variants.{Passed, BadDecibel}
 use Rattle.histogram.specs.Extremes.{extremesFrom}
-use Rattle.histogram.specs.Passes.{passed, firstPass, extremesPass}
+use Rattle.histogram.specs.Passes.{passed, firstPass, extremes}
 use Rattle.histogram.proofs.Statistics.{pass-bad, pass-good}
 use Rattle.autoscale.specs.Bands.{readsMean, statsFor, bandStats, bandWindow, bandPictureWindow}
 use Rattle.autoscale.proofs.Unread.{window-for, picture-for}
 
 -- ---- the statistics, by the pass
 abbrev passFor : AutoscaleStrategy → List Pixel → FirstPass
-passFor strategy px = cond (readsMean strategy) (firstPass px) (extremesPass px)
+passFor strategy px = cond (readsMean strategy) (firstPass px) (extremes px)
 
 -- the moments of that pass
 abbrev momentsFor : AutoscaleStrategy → List Pixel → Moments
 momentsFor strategy px = cond (readsMean strategy) (momentsFrom noMoments (validOf px)) (extremesFrom noMoments (validOf px))
 
 pass-is : (strategy : AutoscaleStrategy) (px : List Pixel) → passFor strategy px ≡ passed px (momentsFor strategy px)
-unfolding firstPass extremesPass
+unfolding firstPass extremes
 pass-is strategy px = go (readsMean strategy)
   where
     go : (b : Bool) → cond b (passed px (momentsFrom noMoments (validOf px))) (passed px (extremesFrom noMoments (validOf px))) ≡ passed px (cond b (momentsFrom noMoments (validOf px)) (extremesFrom noMoments (validOf px)))
@@ -72,13 +72,13 @@ stats-good true s r e = absurd (let z : _≡_ {A = ℕ} 0 1 = cc in omega arith)
 stats-good false s r e = (refl, cc)
 
 module _ (strategy : AutoscaleStrategy) (px : List Pixel) where
-  unread-bad : (k : ℕ) → bandStats strategy px ≡ StatisticsRefused k → badDecibel px ≡ true
+  unread-bad : (k : ℕ) → bandStats strategy px ≡ StatisticsRefused k → decibelsRefused px ≡ true
   unfolding bandStats
-  unread-bad k e = stats-bad (badDecibel px) (statsFor strategy px) k e
+  unread-bad k e = stats-bad (decibelsRefused px) (statsFor strategy px) k e
 
-  unread-good : (s : HistogramStats) → bandStats strategy px ≡ Statistics s → (badDecibel px ≡ false) × (statsFor strategy px ≡ s)
+  unread-good : (s : HistogramStats) → bandStats strategy px ≡ Statistics s → (decibelsRefused px ≡ false) × (statsFor strategy px ≡ s)
   unfolding bandStats
-  unread-good s e = stats-good (badDecibel px) (statsFor strategy px) s e
+  unread-good s e = stats-good (decibelsRefused px) (statsFor strategy px) s e
 
   pub window-refused : (k : ℕ) → bandStats strategy px ≡ StatisticsRefused k → Refused 4 ≡ bandWindow strategy px
   unfolding bandWindow orRefused readWindow
@@ -108,7 +108,7 @@ or-refused (suc k) a n = refl
 
 module _ (strategy : AutoscaleStrategy) (rows cols : ℕ) (m : List ℕ) (d : List Float) where
   abbrev shape : List Bool
-  shape = tooWide rows cols ∷ notNamed rows cols m d ∷ badMark m ∷ []
+  shape = sidesRefused rows cols ∷ lengthsRefused rows cols m d ∷ marksRefused m ∷ []
 
   abbrev px : List Pixel
   px = pixels m d
@@ -116,27 +116,27 @@ module _ (strategy : AutoscaleStrategy) (rows cols : ℕ) (m : List ℕ) (d : Li
   abbrev read : Answer (List Float)
   read = readWindow (windowOf strategy (statisticsOf px))
 
-  is-call : (k : ℕ) → firstOf 1 (tooWide rows cols ∷ notNamed rows cols m d ∷ badMark m ∷ badDecibel px ∷ []) ≡ k → windowCall strategy rows cols m d ≡ orRefused k read
-  unfolding windowCall
+  is-call : (k : ℕ) → firstOf 1 (sidesRefused rows cols ∷ lengthsRefused rows cols m d ∷ marksRefused m ∷ decibelsRefused px ∷ []) ≡ k → autoscaleWindow strategy rows cols m d ≡ orRefused k read
+  unfolding autoscaleWindow
   is-call k e = ap (λ (n : ℕ). orRefused n read) e
 
-  pub call-shape : (k : ℕ) → k ≡ firstOf 1 shape → (k ≡ 0 → ⊥) → readWindow (Refused k) ≡ windowCall strategy rows cols m d
+  pub call-shape : (k : ℕ) → k ≡ firstOf 1 shape → (k ≡ 0 → ⊥) → readWindow (Refused k) ≡ autoscaleWindow strategy rows cols m d
   unfolding readWindow
-  call-shape k e n = sym (is-call k (sym (first-stays 1 shape (badDecibel px ∷ []) (λ z. n (e ∙ z))) ∙ sym e) ∙ or-refused k read n)
+  call-shape k e n = sym (is-call k (sym (first-stays 1 shape (decibelsRefused px ∷ []) (λ z. n (e ∙ z))) ∙ sym e) ∙ or-refused k read n)
 
-  pub call-band : firstOf 1 shape ≡ 0 → (w : WindowAnswer) → w ≡ bandWindow strategy px → readWindow w ≡ windowCall strategy rows cols m d
+  pub call-band : firstOf 1 shape ≡ 0 → (w : WindowAnswer) → w ≡ bandWindow strategy px → readWindow w ≡ autoscaleWindow strategy rows cols m d
   unfolding bandWindow orRefused readWindow
-  call-band good w e = ap readWindow e ∙ go (badDecibel px) refl
+  call-band good w e = ap readWindow e ∙ go (decibelsRefused px) refl
     where
-      tests : firstOf 1 (tooWide rows cols ∷ notNamed rows cols m d ∷ badMark m ∷ badDecibel px ∷ []) ≡ firstOf 4 (badDecibel px ∷ [])
-      tests = first-later 0 shape (badDecibel px ∷ []) good
+      tests : firstOf 1 (sidesRefused rows cols ∷ lengthsRefused rows cols m d ∷ marksRefused m ∷ decibelsRefused px ∷ []) ≡ firstOf 4 (decibelsRefused px ∷ [])
+      tests = first-later 0 shape (decibelsRefused px ∷ []) good
 
-      go : (b : Bool) → badDecibel px ≡ b → readWindow (cond b (Refused 4) (windowOf strategy (statisticsOf px))) ≡ windowCall strategy rows cols m d
-      go true f = sym (is-call 4 (tests ∙ first-here 4 (badDecibel px) [] f) ∙ four)
+      go : (b : Bool) → decibelsRefused px ≡ b → readWindow (cond b (Refused 4) (windowOf strategy (statisticsOf px))) ≡ autoscaleWindow strategy rows cols m d
+      go true f = sym (is-call 4 (tests ∙ first-here 4 (decibelsRefused px) [] f) ∙ four)
         where
           four : orRefused 4 read ≡ readWindow (Refused 4)
           four = refl
-      go false f = sym (is-call 0 (tests ∙ first-not-here 4 (badDecibel px) [] f ∙ first-none 5) ∙ none)
+      go false f = sym (is-call 0 (tests ∙ first-not-here 4 (decibelsRefused px) [] f ∙ first-none 5) ∙ none)
         where
           none : orRefused 0 read ≡ read
           none = refl

@@ -10,7 +10,7 @@ use Rattle.types.specs.declared.WindowAnswer.{WindowAnswer}
 use Rattle.types.specs.declared.WindowAnswer.the-variants.{Refused}
 use Rattle.spec.specs.Moments.{noMoments}
 use Rattle.spec.specs.Pixels.{Pixel, validOf}
-use Rattle.spec.specs.Refusals.{badDecibel}
+use Rattle.spec.specs.Refusals.{decibelsRefused}
 use Rattle.spec.specs.Statistics.{summary, statisticsOf}
 use Rattle.spec.specs.Window.{windowOf, pictureWindow}
 use Rattle.histogram.specs.Extremes.{extremesFrom}
@@ -31,11 +31,11 @@ statsFor strategy px = cond (readsMean strategy) (statisticsOf px) (summary (ext
 
 -- or refused with 4
 unfoldable pub bandStats : AutoscaleStrategy → List Pixel → StatisticsAnswer
-bandStats strategy px = cond (badDecibel px) (StatisticsRefused 4) (Statistics (statsFor strategy px))
+bandStats strategy px = cond (decibelsRefused px) (StatisticsRefused 4) (Statistics (statsFor strategy px))
 
 -- the windows of a band, or refused with 4
 unfoldable pub bandWindow : AutoscaleStrategy → List Pixel → WindowAnswer
-bandWindow strategy px = cond (badDecibel px) (Refused 4) (windowOf strategy (statisticsOf px))
+bandWindow strategy px = cond (decibelsRefused px) (Refused 4) (windowOf strategy (statisticsOf px))
 
 unfoldable pub bandPictureWindow : AutoscaleStrategy → Bool → List Pixel → WindowAnswer
-bandPictureWindow strategy copol px = cond (badDecibel px) (Refused 4) (pictureWindow strategy copol (statisticsOf px))
+bandPictureWindow strategy copol px = cond (decibelsRefused px) (Refused 4) (pictureWindow strategy copol (statisticsOf px))

@@ -8,7 +8,7 @@ ghost use mathlib.Core.Bool.{cond};
 ghost use Prim.Native.Nat.{_<_, _^_};
 ghost use lib.ListN.{length};
 ghost use Rattle.spec.specs.Pixels.{pixels};
-ghost use Rattle.histogram.specs.Passes.{firstPass, extremesPass};
+ghost use Rattle.histogram.specs.Passes.{firstPass, extremes};
 ghost use Rattle.autoscale.specs.Bands.{readsMean, bandStats, bandWindow, bandPictureWindow};
 
 fn reads_mean(strategy: AutoscaleStrategy) -> bool
@@ -24,7 +24,7 @@ fn reads_mean(strategy: AutoscaleStrategy) -> bool
 // Pass one, as far as the strategy reads it.
 fn strategy_pass(strategy: AutoscaleStrategy, db: &[f64], valid_mask: &[u8]) -> FirstPass
     requires { ⌜ (length (now «valid_mask») ≡ length (now db)) × (length (now db) < 2 ^ 32) ⌝ }
-    ensures { λ r. ⌜ r ≡ cond (readsMean strategy) (firstPass (pixels (now («valid_mask» .entry)) (now (db .entry)))) (extremesPass (pixels (now («valid_mask» .entry)) (now (db .entry)))) ⌝ }
+    ensures { λ r. ⌜ r ≡ cond (readsMean strategy) (firstPass (pixels (now («valid_mask» .entry)) (now (db .entry)))) (extremes (pixels (now («valid_mask» .entry)) (now (db .entry)))) ⌝ }
 {
     if reads_mean(strategy) {
         return histogram::moments::first_pass(db, valid_mask);
@@ -40,7 +40,7 @@ pub fn band_stats(strategy: AutoscaleStrategy, db: &[f64], valid_mask: &[u8]) ->
     let FirstPass::Passed(m) = strategy_pass(strategy, db, valid_mask) else {
         return StatisticsAnswer::Refused(4);
     };
-    StatisticsAnswer::Statistics(histogram::summary_of(db, valid_mask, m))
+    StatisticsAnswer::Statistics(histogram::summary(db, valid_mask, m))
 }
 
 // The window of such a band.

@@ -15,7 +15,7 @@ fn between(low: f64, high: f64, gamma: f64) -> Clip
 
 // Low at least the least value, high at most the greatest.
 fn valid_range(stats: HistogramStats, low: f64, high: f64, gamma: f64) -> Clip
-    ensures { λ r. ⌜ r ≡ Window.inside stats low high gamma ⌝ }
+    ensures { λ r. ⌜ r ≡ Window.validRange stats low high gamma ⌝ }
 {
     Clip {
         low: numeric::max_f64(low, stats.min_db),
@@ -26,7 +26,7 @@ fn valid_range(stats: HistogramStats, low: f64, high: f64, gamma: f64) -> Clip
 
 // Standard, low contrast: around the median.
 fn low_contrast_clip(stats: HistogramStats, dynamic_range: f64) -> Clip
-    ensures { λ r. ⌜ r ≡ Window.narrow stats «dynamic_range» ⌝ }
+    ensures { λ r. ⌜ r ≡ Window.lowContrastClip stats «dynamic_range» ⌝ }
 {
     let range = numeric::max_f64(20.0, dynamic_range * 0.8);
     valid_range(
@@ -39,14 +39,14 @@ fn low_contrast_clip(stats: HistogramStats, dynamic_range: f64) -> Clip
 
 // Standard, heavy-tailed: by the interquartile range.
 fn heavy_tailed_clip(stats: HistogramStats, iqr: f64) -> Clip
-    ensures { λ r. ⌜ r ≡ Window.heavy stats iqr ⌝ }
+    ensures { λ r. ⌜ r ≡ Window.heavyTailedClip stats iqr ⌝ }
 {
     valid_range(stats, stats.p25 - 2.5 * iqr, stats.p75 + 2.5 * iqr, 1.0)
 }
 
 // Standard, high dynamic range: at least 0.02 of it within the ends.
 fn high_range_clip(stats: HistogramStats, dynamic_range: f64) -> Clip
-    ensures { λ r. ⌜ r ≡ Window.wide stats «dynamic_range» ⌝ }
+    ensures { λ r. ⌜ r ≡ Window.highRangeClip stats «dynamic_range» ⌝ }
 {
     let clip_low = numeric::max_f64(stats.p02, stats.min_db + 0.02 * dynamic_range);
     let clip_high = numeric::min_f64(stats.p98, stats.max_db - 0.02 * dynamic_range);
@@ -55,14 +55,14 @@ fn high_range_clip(stats: HistogramStats, dynamic_range: f64) -> Clip
 
 // Standard, normal.
 fn normal_clip(stats: HistogramStats) -> Clip
-    ensures { λ r. ⌜ r ≡ Window.normal stats ⌝ }
+    ensures { λ r. ⌜ r ≡ Window.normalClip stats ⌝ }
 {
     valid_range(stats, stats.p02, stats.p98, 1.0)
 }
 
 // Standard, as `autoscale_db_image` decides it.
 pub fn standard_clip(stats: HistogramStats) -> Clip
-    ensures { λ r. ⌜ r ≡ Window.standard stats ⌝ }
+    ensures { λ r. ⌜ r ≡ Window.standardClip stats ⌝ }
 {
     let dynamic_range = stats.max_db - stats.min_db;
     let iqr = stats.p75 - stats.p25;
@@ -79,7 +79,7 @@ pub fn standard_clip(stats: HistogramStats) -> Clip
 }
 
 pub fn robust_clip(stats: HistogramStats) -> Clip
-    ensures { λ r. ⌜ r ≡ Window.robust stats ⌝ }
+    ensures { λ r. ⌜ r ≡ Window.robustClip stats ⌝ }
 {
     let iqr = stats.p75 - stats.p25;
     let outlier_threshold = 2.5 * iqr;
@@ -93,20 +93,20 @@ pub fn robust_clip(stats: HistogramStats) -> Clip
 }
 
 fn skew_factor(stats: HistogramStats) -> f64
-    ensures { λ r. ⌜ r ≡ Window.skewOf stats ⌝ }
+    ensures { λ r. ⌜ r ≡ Window.skewFactor stats ⌝ }
 {
     (stats.mean_db - stats.median_db) / numeric::max_f64(numeric::abs_f64(stats.std_db), 1.0)
 }
 
 fn tail_heaviness(stats: HistogramStats) -> f64
-    ensures { λ r. ⌜ r ≡ Window.tailOf stats ⌝ }
+    ensures { λ r. ⌜ r ≡ Window.tailHeaviness stats ⌝ }
 {
     (stats.p99 - stats.p95) / numeric::max_f64(stats.p95 - stats.p75, 1.0)
 }
 
 // By skew, then by tail.
 pub fn adaptive_clip(stats: HistogramStats) -> Clip
-    ensures { λ r. ⌜ r ≡ Window.adaptive stats ⌝ }
+    ensures { λ r. ⌜ r ≡ Window.adaptiveClip stats ⌝ }
 {
     let skew = skew_factor(stats);
     if numeric::abs_f64(skew) > 0.5 {
@@ -123,7 +123,7 @@ pub fn adaptive_clip(stats: HistogramStats) -> Clip
 
 // What a strategy decides for the window and grey calls.
 pub fn choose_clip(strategy: AutoscaleStrategy, stats: HistogramStats) -> Clip
-    ensures { λ r. ⌜ r ≡ Window.chosen strategy stats ⌝ }
+    ensures { λ r. ⌜ r ≡ Window.chooseClip strategy stats ⌝ }
 {
     match strategy {
         AutoscaleStrategy::Standard => standard_clip(stats),
@@ -138,7 +138,7 @@ pub fn choose_clip(strategy: AutoscaleStrategy, stats: HistogramStats) -> Clip
 
 // Tamed on the picture path, as `autoscale_db_image_tamed_synrgb_u8` decides it.
 pub fn tamed_clip(is_copol: bool, stats: HistogramStats) -> Clip
-    ensures { λ r. ⌜ r ≡ Window.tamed «is_copol» stats ⌝ }
+    ensures { λ r. ⌜ r ≡ Window.tamedClip «is_copol» stats ⌝ }
 {
     if is_copol {
         return between(numeric::min_f64(stats.p02, stats.p05), stats.p99, 1.0);
@@ -148,7 +148,7 @@ pub fn tamed_clip(is_copol: bool, stats: HistogramStats) -> Clip
 
 // What a strategy decides for a picture.
 pub fn picture_clip(strategy: AutoscaleStrategy, is_copol: bool, stats: HistogramStats) -> Clip
-    ensures { λ r. ⌜ r ≡ cond (isTamed strategy) (Window.tamed «is_copol» stats) (Window.chosen strategy stats) ⌝ }
+    ensures { λ r. ⌜ r ≡ cond (isTamed strategy) (Window.tamedClip «is_copol» stats) (Window.chooseClip strategy stats) ⌝ }
 {
     if let AutoscaleStrategy::Tamed = strategy {
         return tamed_clip(is_copol, stats);

@@ -68,7 +68,7 @@ pub fn autoscale_window(
     db: &[f64],
     valid_mask: &[u8],
 ) -> WindowAnswer
-    ensures { λ r. ⌜ Window.readWindow r ≡ Window.windowCall strategy rows cols (now («valid_mask» .entry)) (now (db .entry)) ⌝ }
+    ensures { λ r. ⌜ Window.readWindow r ≡ Window.autoscaleWindow strategy rows cols (now («valid_mask» .entry)) (now (db .entry)) ⌝ }
 {
     let refusal = raster::shape_refusal(rows, cols, db, valid_mask);
     if refusal != 0 {
@@ -86,7 +86,7 @@ pub fn is_painted(gamma: f64) -> bool
 
 // Whether a window's gamma is refused with 6.
 pub fn gamma_refused(window: WindowAnswer) -> bool
-    ensures { λ r. ⌜ r ≡ Window.otherGamma window ⌝ }
+    ensures { λ r. ⌜ r ≡ Window.gammaRefused window ⌝ }
 {
     let WindowAnswer::Window {
         low: _,

@@ -7,17 +7,17 @@ ghost use lib.Dec.{eqb};
 ghost use lib.ListN.{length};
 ghost use Rattle.spec.specs.Lists.{lowest, highest};
 ghost use Rattle.spec.specs.Pixels.{pixels};
-ghost use Rattle.spec.specs.Value.{full8, full16, normalised, valueOf, paint};
+ghost use Rattle.spec.specs.Value.{full8, full16, normalized, valueOf, paint};
 
 // Held to low..high, minus low, over range.
 pub fn normalized(v: f64, low: f64, high: f64, range: f64) -> f64
-    ensures { λ r. ⌜ r ≡ normalised low high range v ⌝ }
+    ensures { λ r. ⌜ r ≡ normalized low high range v ⌝ }
 {
     (numeric::clamp_f64(v, low, high) - low) / range
 }
 
 // Times 255, held to 0..255, truncated.
-pub fn value_u8(v: f64, low: f64, high: f64, range: f64) -> u8
+pub fn value_of_u8(v: f64, low: f64, high: f64, range: f64) -> u8
     ensures { λ r. ⌜ r ≡ valueOf full8 low high range v ⌝ }
 {
     let x = normalized(v, low, high, range) * 255.0;
@@ -25,7 +25,7 @@ pub fn value_u8(v: f64, low: f64, high: f64, range: f64) -> u8
 }
 
 // Times 65535, held to 0..65535, truncated.
-pub fn value_u16(v: f64, low: f64, high: f64, range: f64) -> u16
+pub fn value_of_u16(v: f64, low: f64, high: f64, range: f64) -> u16
     ensures { λ r. ⌜ r ≡ valueOf full16 low high range v ⌝ }
 {
     let x = normalized(v, low, high, range) * 65535.0;
@@ -62,7 +62,7 @@ pub fn paint_u8(
     let mut hi: u16 = 0;
     let mut i = 0;
     while i < out.len() {
-        let value = value_u8(db[i], low, high, range);
+        let value = value_of_u8(db[i], low, high, range);
         let x = masked_u8(valid_mask[i], value);
         out[i] = x;
         lo = stretch::min_u16(lo, x as u16);
@@ -79,7 +79,7 @@ pub fn paint_u16(db: &[f64], valid_mask: &[u8], low: f64, high: f64, range: f64,
 {
     let mut i = 0;
     while i < out.len() {
-        let value = value_u16(db[i], low, high, range);
+        let value = value_of_u16(db[i], low, high, range);
         out[i] = masked_u16(valid_mask[i], value);
         i += 1;
     }

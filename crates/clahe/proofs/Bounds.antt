@@ -14,10 +14,10 @@ use lib.Ieee.Scale.{finite}
 use Rattle.numeric.proofs.Order.{plus, less, number-of-finite, le-trans as le-trans', le-of-lt, finite-between, le-refl as le-refl'}
 use Rattle.numeric.proofs.Round.{round-le, rounds-le}
 use Rattle.numeric.proofs.Ops.{sub-nonneg, add-le-both, sub-le-both, div-le, div-rounds}
-use Rattle.numeric.proofs.Picks.{toUnsigned-le, above-larger}
+use Rattle.numeric.proofs.Picks.{toUnsigned-le, above-max}
 use Rattle.numeric.proofs.Values.{value-finite, value-plus, count-value, count-sub}
 use Rattle.numeric.proofs.Exact.{count-add}
-use Rattle.spec.specs.Floats.{zero64, one64, two64, ofCount, larger}
+use Rattle.spec.specs.Floats.{zero64, one64, two64, ofCount, maxFloat}
 use Rattle.spec.specs.Lists.{sumOf}
 use Rattle.spec.specs.Clahe.{levels64, threshold, clipped, excess}
 
@@ -146,4 +146,4 @@ share-fits limit hs each b l k = omega (arith, clipped-at limit hs k (λ j. omeg
 pub threshold-low : (area : ℕ) → T (le zero64 (threshold area))
 unfolding threshold le ofBits
 threshold-low area =
-    le-trans' zero64 one64 (larger (mul binary64 two64 (div binary64 (ofCount area) levels64)) one64) tt (above-larger (mul binary64 two64 (div binary64 (ofCount area) levels64)) one64 tt)
+    le-trans' zero64 one64 (maxFloat (mul binary64 two64 (div binary64 (ofCount area) levels64)) one64) tt (above-max (mul binary64 two64 (div binary64 (ofCount area) levels64)) one64 tt)

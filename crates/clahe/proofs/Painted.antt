@@ -9,11 +9,11 @@ use lib.Ieee.{Float, nan, binary64, mul, toUnsigned}
 use lib.ListN.{length, getD, take, drop, length-take, length-drop, length-map}
 use lib.Seq.{getD-take, getD-drop, ext-getD}
 use Rattle.types.specs.declared.TilePosition.{TilePosition}
-use Rattle.spec.specs.Floats.{zero64, one64, held}
+use Rattle.spec.specs.Floats.{zero64, one64, clampFloat}
 use Rattle.spec.specs.Lists.{places}
 use Rattle.spec.specs.Pixels.{Pixel, off, on, pixel, pixels}
 use Rattle.spec.specs.Grey.{normalPixel}
-use Rattle.spec.specs.Clahe.{tileSide, positionOf, levelOf, sumAt, sample, equalised, tileTables, claheValues}
+use Rattle.spec.specs.Clahe.{tileSide, tilePosition, levelOf, sumAt, sample, equalised, tileTables, claheValues}
 use Rattle.clahe.specs.Work.{Holds, Among, sumIn, sampled}
 use Rattle.clahe.specs.Band.{band, Raster}
 use Rattle.clahe.specs.Paint.{shade, shadeAt, rowShades, shades}
@@ -50,13 +50,13 @@ module _ (low high range : Float) (marks : List ℕ) (db : List Float) where
 
 -- the value at place i
 abbrev pub valueAt : Float → List Float → ℕ → ℕ → List Pixel → ℕ → ℕ
-valueAt full work rows cols px i = shade full work (positionOf (tileSide rows) (i / cols)) (positionOf (tileSide cols) (i % cols)) (getD px i off)
+valueAt full work rows cols px i = shade full work (tilePosition (tileSide rows) (i / cols)) (tilePosition (tileSide cols) (i % cols)) (getD px i off)
 
 module _ (full : Float) (work : List Float) (rows cols : ℕ) (low high range : Float) (marks : List ℕ) (db : List Float) (w : Raster rows cols marks db) where
   abbrev Px : List Pixel
   Px = band low high range marks db
 
-  module _ (r : ℕ) (y : TilePosition) (x : ℕ → TilePosition) (h : r < rows) (e : y ≡ positionOf (tileSide rows) r) (f : (c : ℕ) → c < cols → x c ≡ positionOf (tileSide cols) c) where
+  module _ (r : ℕ) (y : TilePosition) (x : ℕ → TilePosition) (h : r < rows) (e : y ≡ tilePosition (tileSide rows) r) (f : (c : ℕ) → c < cols → x c ≡ tilePosition (tileSide cols) c) where
     inside : (c : ℕ) → c < cols → r * cols + c < rows * cols
     inside c g = omega (arith, next-times r cols, mul-le-mul-right {m = r + 1} {n = rows} cols (omega arith))
 
@@ -66,18 +66,18 @@ module _ (full : Float) (work : List Float) (rows cols : ℕ) (low high range : 
         let m = getD-take cols (drop a marks) c 0 g ∙ getD-drop a marks c 0 in
         let d = getD-take cols (drop a db) c nan g ∙ getD-drop a db c nan in
         ap (λ (p : TilePosition). shade full work p (x c) (normalPixel low high range (pixel (getD (take cols (drop a marks)) c 0) (getD (take cols (drop a db)) c nan))))
-        (e ∙ ap (positionOf (tileSide rows)) (sym (row-of r c cols g)))
+        (e ∙ ap (tilePosition (tileSide rows)) (sym (row-of r c cols g)))
         ∙ ap (λ (p : TilePosition). shade full work Y p (normalPixel low high range (pixel (getD (take cols (drop a marks)) c 0) (getD (take cols (drop a db)) c nan))))
-        (f c g ∙ ap (positionOf (tileSide cols)) (sym (column-of r c cols g)))
+        (f c g ∙ ap (tilePosition (tileSide cols)) (sym (column-of r c cols g)))
         ∙ ap (λ (n : ℕ). shade full work Y X (normalPixel low high range (pixel n (getD (take cols (drop a db)) c nan)))) m
         ∙ ap (λ (v : Float). shade full work Y X (normalPixel low high range (pixel (getD marks (a + c) 0) v))) d
         ∙ ap (shade full work Y X) (sym (band-at low high range marks db (a + c) (w .marks-length ∙ sym (w .db-length)) (omega (arith, w .db-length, inside c g))))
       where
         Y : TilePosition
-        Y = positionOf (tileSide rows) ((r * cols + c) / cols)
+        Y = tilePosition (tileSide rows) ((r * cols + c) / cols)
 
         X : TilePosition
-        X = positionOf (tileSide cols) ((r * cols + c) % cols)
+        X = tilePosition (tileSide cols) ((r * cols + c) % cols)
 
     row-size : length (take cols (drop (r * cols) db)) ≡ cols
     row-size = simp (length-take, length-drop) (omega (arith, w .db-length, next-times r cols, mul-le-mul-right {m = r + 1} {n = rows} cols (omega arith)))
@@ -117,7 +117,7 @@ module _ (full : Float) (work : List Float) (rows cols : ℕ) (low high range : 
   unfolding shades
   all-rows out n all =
       let size = band-length low high range marks db (w .marks-length ∙ sym (w .db-length)) ∙ w .db-length in
-      let F : ℕ → Pixel → ℕ = λ i p. shade full work (positionOf (tileSide rows) (i / cols)) (positionOf (tileSide cols) (i % cols)) p in
+      let F : ℕ → Pixel → ℕ = λ i p. shade full work (tilePosition (tileSide rows) (i / cols)) (tilePosition (tileSide cols) (i % cols)) p in
       let m = places-length 0 (length Px) in
       ext-getD 0 out (zipWith F (places (length Px)) Px) (n ∙ sym size ∙ sym (zip-length F (places (length Px)) Px m))
       (λ i h. all i (omega arith)
@@ -144,12 +144,12 @@ module _ (tables : List (List ℕ)) (work : List Float) (s : Holds tables work) 
   level-below u = omega arith
 
   shade-is : (full : Float) (rows cols i : ℕ) (p : Pixel)
-      → shade full work (positionOf (tileSide rows) (i / cols)) (positionOf (tileSide cols) (i % cols)) p ≡ equalised full rows cols tables i p
+      → shade full work (tilePosition (tileSide rows) (i / cols)) (tilePosition (tileSide cols) (i % cols)) p ≡ equalised full rows cols tables i p
   unfolding shade equalised
   shade-is full rows cols i off = refl
   shade-is full rows cols i (on u) =
-      ap (λ (t : Float). toUnsigned 64 (mul binary64 (held zero64 one64 t) full))
-      (sampled-is (positionOf (tileSide rows) (i / cols)) (positionOf (tileSide cols) (i % cols)) (levelOf u) (among (tileSide rows) (i / cols)) (among (tileSide cols) (i % cols)) (level-below u))
+      ap (λ (t : Float). toUnsigned 64 (mul binary64 (clampFloat zero64 one64 t) full))
+      (sampled-is (tilePosition (tileSide rows) (i / cols)) (tilePosition (tileSide cols) (i % cols)) (levelOf u) (among (tileSide rows) (i / cols)) (among (tileSide cols) (i % cols)) (level-below u))
 
 zip-same : {A : Type 0} {B : Type 0} {C : Type 0} (f g : A → B → C) → ((a : A) (b : B) → f a b ≡ g a b) → (xs : List A) (ys : List B) → zipWith f xs ys ≡ zipWith g xs ys
 unfolding zipWith
@@ -160,5 +160,5 @@ zip-same f g e (x ∷ xs) (y ∷ ys) = cc (e x y, zip-same f g e xs ys)
 pub shades-are : (full : Float) (rows cols : ℕ) (px : List Pixel) (work : List Float) → Holds (tileTables rows cols px) work → shades full work rows cols px ≡ claheValues full rows cols px
 unfolding shades claheValues
 shades-are full rows cols px work s =
-    zip-same (λ i p. shade full work (positionOf (tileSide rows) (i / cols)) (positionOf (tileSide cols) (i % cols)) p) (equalised full rows cols (tileTables rows cols px))
+    zip-same (λ i p. shade full work (tilePosition (tileSide rows) (i / cols)) (tilePosition (tileSide cols) (i % cols)) p) (equalised full rows cols (tileTables rows cols px))
     (shade-is (tileTables rows cols px) work s full rows cols) (places (length px)) px

@@ -8,16 +8,16 @@ use lib.Ieee.{Float, nan}
 use lib.ListN.{length, set}
 use lib.Seq.{getD-set-same, getD-set-other}
 use Rattle.types.specs.declared.TilePosition.{TilePosition}
-use Rattle.spec.specs.Clahe.{positionOf}
+use Rattle.spec.specs.Clahe.{tilePosition}
 use Rattle.clahe.specs.Work.{Among}
 use Rattle.clahe.specs.Paint.{columnAt, Columns}
 
 -- a position's tiles are among the eight
-pub among : (side i : ℕ) → Among (positionOf side i)
-unfolding positionOf
+pub among : (side i : ℕ) → Among (tilePosition side i)
+unfolding tilePosition
 among side i = (omega arith, omega arith)
 
-pub among-of : (side i : ℕ) (p : TilePosition) → p ≡ positionOf side i → Among p
+pub among-of : (side i : ℕ) (p : TilePosition) → p ≡ tilePosition side i → Among p
 among-of side i p e = subst Among (sym e) (among side i)
 
 -- a position by its parts
@@ -35,11 +35,11 @@ module _ (side : ℕ) (ps : List Float) (fs ss : List ℕ) (ws : List Float) (c 
   here a b d e =
       made (getD-set-same ps c (p .position) nan a) (getD-set-same fs c (p .first) 0 b) (getD-set-same ss c (p .second) 0 d) (getD-set-same ws c (p .weight) nan e)
 
-  pub column-next : p ≡ positionOf side c → c < length ps → c < length fs → c < length ss → c < length ws
-      → ((j : ℕ) → j < c → columnAt ps fs ss ws j ≡ positionOf side j)
-      → (j : ℕ) → j < c + 1 → columnAt (set ps c (p .position)) (set fs c (p .first)) (set ss c (p .second)) (set ws c (p .weight)) j ≡ positionOf side j
+  pub column-next : p ≡ tilePosition side c → c < length ps → c < length fs → c < length ss → c < length ws
+      → ((j : ℕ) → j < c → columnAt ps fs ss ws j ≡ tilePosition side j)
+      → (j : ℕ) → j < c + 1 → columnAt (set ps c (p .position)) (set fs c (p .first)) (set ss c (p .second)) (set ws c (p .weight)) j ≡ tilePosition side j
   column-next q a b d e all =
-      below-more (λ (j : ℕ). columnAt (set ps c (p .position)) (set fs c (p .first)) (set ss c (p .second)) (set ws c (p .weight)) j ≡ positionOf side j) c
+      below-more (λ (j : ℕ). columnAt (set ps c (p .position)) (set fs c (p .first)) (set ss c (p .second)) (set ws c (p .weight)) j ≡ tilePosition side j) c
       (λ j l. same j (λ f. omega arith) ∙ all j l) (here a b d e ∙ q)
 
 pub of-side : {side other n : ℕ} {ps : List Float} {fs ss : List ℕ} {ws : List Float} → side ≡ other → Columns side n ps fs ss ws → Columns other n ps fs ss ws

@@ -5,7 +5,7 @@ use Prim.Native.Nat.{ℕ, _+_, min}
 use lib.Ieee.{Float, binary64, sub, div, toUnsigned}
 use Rattle.types.specs.declared.TilePosition.{TilePosition}
 use Rattle.spec.specs.Floats.{half64, ofCount}
-use Rattle.spec.specs.Clahe.{positionOf, blend}
+use Rattle.spec.specs.Clahe.{tilePosition, blend}
 use Rattle.clahe.specs.Work.{sumIn, sampled}
 
 module _ (side i : ℕ) where
@@ -13,8 +13,8 @@ module _ (side i : ℕ) where
   place = sub binary64 (div binary64 (ofCount i) (ofCount side)) half64
 
   pub position-of : (k m n : ℕ) (w x : Float) → k ≡ toUnsigned 64 place → m ≡ min k 7 → n ≡ min (k + 1) 7 → w ≡ ofCount k → x ≡ sub binary64 place w
-      → _≡_ {A = TilePosition} (record { position = place; first = m; second = n; weight = x }) (positionOf side i)
-  unfolding positionOf
+      → _≡_ {A = TilePosition} (record { position = place; first = m; second = n; weight = x }) (tilePosition side i)
+  unfolding tilePosition
   position-of k m n w x a b c d e = cc
 
 pub sampled-from : (work : List Float) (y x : TilePosition) (b : ℕ) (top bottom r : Float)

@@ -13,8 +13,8 @@ use Rattle.numeric.proofs.Order.{plus, less, number-of-finite, finite-between, 
 use Rattle.numeric.proofs.Round.{Rounds, rounds-le}
 use Rattle.numeric.proofs.Ops.{sub-rounds, sub-le-both, mul-rounds, div-rounds}
 use Rattle.numeric.proofs.Picks.{toUnsigned-le}
-use Rattle.numeric.proofs.Values.{value-finite, value-plus, value-less, count-value, rounded-of, nothing-less}
-use Rattle.spec.specs.Floats.{zero64, ofCount, rounded}
+use Rattle.numeric.proofs.Values.{value-finite, value-plus, value-less, count-value, roundAsU64-of, nothing-less}
+use Rattle.spec.specs.Floats.{zero64, ofCount, roundAsU64}
 use Rattle.spec.specs.Lists.{sumOf}
 use Rattle.spec.specs.Clahe.{levels64, excess}
 use Rattle.clahe.proofs.Bounds.{count-finite, count-le, zero-count, count-back, each-most, excess-bounds}
@@ -43,15 +43,15 @@ not-256 : ofCount 256 ≡ inf false → ⊥
 unfolding ofInt round
 not-256 e = let z : _≡_ {A = ℕ} 0 1 = cc in omega arith
 
-rounded-most : (z : Float) → T (le z (ofCount 256)) → rounded z ≤ 256
-unfolding rounded
-rounded-most nan h = zero-le
-rounded-most (inf true) h = zero-le
-rounded-most (inf false) h = absurd (not-256 (only-top (ofCount 256) h))
-rounded-most (fin true m e) h = zero-le
-rounded-most (fin false m e) h =
+roundAsU64-most : (z : Float) → T (le z (ofCount 256)) → roundAsU64 z ≤ 256
+unfolding roundAsU64
+roundAsU64-most nan h = zero-le
+roundAsU64-most (inf true) h = zero-le
+roundAsU64-most (inf false) h = absurd (not-256 (only-top (ofCount 256) h))
+roundAsU64-most (fin true m e) h = zero-le
+roundAsU64-most (fin false m e) h =
     let x = fin false m e in
-    omega (arith, rounded-of x tt, rounds-under (plus x) (den x) (den-pos x) (omega (arith, under x 256 (omega arith) tt h)))
+    omega (arith, roundAsU64-of x tt, rounds-under (plus x) (den x) (den-pos x) (omega (arith, under x 256 (omega arith) tt h)))
 
 -- ---- what is left of x
 
@@ -146,17 +146,17 @@ module _ (x : Float) (n : ℕ) (b : n ≤ 2 ^ 44) (l : T (le zero64 x)) (h : T (
         mul-assoc 256 (den x) (den g),
       ))
 
-  pub rest-most : rounded (sub binary64 x given) ≤ 256
+  pub rest-most : roundAsU64 (sub binary64 x given) ≤ 256
   rest-most =
       let f = x-finite in
-      rounded-most (sub binary64 x given)
+      roundAsU64-most (sub binary64 x given)
       (le-trans' (sub binary64 x given) (sub binary64 x (ofCount (each * 256))) (ofCount 256)
       (sub-le-both binary64 x given x (ofCount (each * 256)) f given-finite f (count-finite (each * 256) (omega (arith, each-under))) (le-refl' x (number-of-finite x f)) given-above)
       less-count)
 
 -- the rest of a tile's excess
 pub tile-rest-most : (limit : Float) → T (le zero64 limit) → (hs : List ℕ) → sumOf hs ≤ 2 ^ 44
-    → let over = excess limit zero64 hs in rounded (sub binary64 over (mul binary64 (ofCount (toUnsigned 64 (div binary64 over levels64))) levels64)) ≤ 256
+    → let over = excess limit zero64 hs in roundAsU64 (sub binary64 over (mul binary64 (ofCount (toUnsigned 64 (div binary64 over levels64))) levels64)) ≤ 256
 tile-rest-most limit p hs b =
     let k = excess-bounds limit p hs (omega arith) in
     rest-most (excess limit zero64 hs) (sumOf hs) b (k .0) (k .1)

@@ -11,7 +11,7 @@ use lib.Seq.{drop-cons}
 use Rattle.spec.specs.Lists.{added, stored}
 use Rattle.spec.specs.Pixels.{off, on, pixel, pixels, validOf}
 use Rattle.spec.specs.Grey.{normalPixel}
-use Rattle.spec.specs.Value.{normalised}
+use Rattle.spec.specs.Value.{normalized}
 use Rattle.spec.specs.Clahe.{levelOf}
 use Rattle.clahe.specs.Band.{band, levels}
 
@@ -68,7 +68,7 @@ module _ (low high range : Float) (marks : List ℕ) (db : List Float) (h : List
       drop-of (x ∷ xs) (suc j) l = drop-of xs j (le-of-suc-le-suc l)
 
   module _ (d : Float) (a : i < length db) (b : i < length marks) where
-    pub row-on : (getD marks i 0 ≡ 0 → ⊥) → Left h i ≡ Left (added (levelOf (normalised low high range (getD db i d))) h) (i + 1)
+    pub row-on : (getD marks i 0 ≡ 0 → ⊥) → Left h i ≡ Left (added (levelOf (normalized low high range (getD db i d))) h) (i + 1)
     unfolding stored pixels zipWith validOf normalPixel
     row-on e = rw (add-one i, drop-cons db i d, drop-cons marks i 0, pixel-on (getD marks i 0) (getD db i d) e)
 

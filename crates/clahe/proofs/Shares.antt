@@ -10,7 +10,7 @@ use borrow.Author.Tests.{lt-ltb, le-ltb}
 use lib.Dec.{ltb}
 use lib.ListN.{length, getD}
 use lib.Ieee.{Float, binary64, sub, mul, div, toUnsigned}
-use Rattle.spec.specs.Floats.{ofCount, rounded}
+use Rattle.spec.specs.Floats.{ofCount, roundAsU64}
 use Rattle.spec.specs.Pixels.{Pixel}
 use Rattle.clahe.specs.Limits.{allIn, InvalidCounted}
 use Rattle.spec.specs.Clahe.{levels64, oneByOne, shared, threshold, clipAt, clip, tilePixels, tileCounts, tileTable}
@@ -36,11 +36,11 @@ one-by-one-at (suc rest) (x ∷ hs) zero h = sym (ap (λ (t : Bool). x + cond t 
 one-by-one-at (suc rest) (x ∷ hs) (suc k) h = one-by-one-at rest hs k (le-of-suc-le-suc h) ∙ ap (λ (t : Bool). getD hs k 0 + cond t 1 0) (sym (suc-ltb k rest (decLt k rest)))
 
 pub shared-from : (over : Float) (hs : List ℕ) (each rest : ℕ) → each ≡ toUnsigned 64 (div binary64 over levels64)
-    → rest ≡ rounded (sub binary64 over (mul binary64 (ofCount each) levels64)) → oneByOne rest (map (λ h. h + each) hs) ≡ shared over hs
+    → rest ≡ roundAsU64 (sub binary64 over (mul binary64 (ofCount each) levels64)) → oneByOne rest (map (λ h. h + each) hs) ≡ shared over hs
 unfolding shared
 shared-from over hs each rest p q =
     ap (λ (n : ℕ). oneByOne n (map (λ h. h + each) hs)) q
-    ∙ ap (λ (e : ℕ). oneByOne (rounded (sub binary64 over (mul binary64 (ofCount e) levels64))) (map (λ h. h + e) hs)) p
+    ∙ ap (λ (e : ℕ). oneByOne (roundAsU64 (sub binary64 over (mul binary64 (ofCount e) levels64))) (map (λ h. h + e) hs)) p
 
 -- ---- the counts of tile k after clipping
 

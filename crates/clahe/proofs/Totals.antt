@@ -8,7 +8,7 @@ use native.Mathlib.Omega.{arith}
 use lib.ListN.{length, getD, take, drop}
 use lib.Seq.{drop-cons, drop-length}
 use lib.Ieee.{Float, binary64, div}
-use Rattle.spec.specs.Floats.{zero64, one64, ofCount, larger, held}
+use Rattle.spec.specs.Floats.{zero64, one64, ofCount, maxFloat, clampFloat}
 use Rattle.spec.specs.Lists.{sumOf}
 use Rattle.spec.specs.Clahe.{sumAt}
 
@@ -28,7 +28,7 @@ sum-take (x ∷ hs) zero h = omega arith
 sum-take (x ∷ hs) (suc i) h = ap (λ (m : ℕ). x + m) (sum-take hs i (le-of-suc-le-suc h)) ∙ omega arith
 
 -- the running sum at bin b, from the sum so far and the whole
-pub sum-at : (hs : List ℕ) (b sum : ℕ) (whole r : Float) → sum ≡ sumOf (take (suc b) hs) → whole ≡ larger (ofCount (sumOf hs)) one64
-    → r ≡ held zero64 one64 (div binary64 (ofCount sum) whole) → r ≡ sumAt hs b
+pub sum-at : (hs : List ℕ) (b sum : ℕ) (whole r : Float) → sum ≡ sumOf (take (suc b) hs) → whole ≡ maxFloat (ofCount (sumOf hs)) one64
+    → r ≡ clampFloat zero64 one64 (div binary64 (ofCount sum) whole) → r ≡ sumAt hs b
 unfolding sumAt
 sum-at hs b sum whole r p q e = cc

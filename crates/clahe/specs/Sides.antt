@@ -3,7 +3,7 @@ use Prim.Native.Nat.{ℕ}
 use mathlib.Core.Path.{_≡_}
 use mathlib.Core.Bool.{Bool, not, _&&_, _||_}
 use lib.Dec.{leb, eqb}
-use Rattle.spec.specs.Refusals.{badSide}
+use Rattle.spec.specs.Refusals.{sideRefused}
 
 abbrev pub from : ℕ → ℕ → ℕ → Bool
 from a b s = leb a s && leb s b
@@ -13,4 +13,4 @@ unfoldable pub listed : ℕ → Bool
 listed s = eqb s 0 || from 7 8 s || from 14 16 s || from 21 24 s || from 28 32 s || from 35 40 s || leb 42 s
 
 unfoldable pub SidesListed : Type 0
-SidesListed = (s : ℕ) → badSide s ≡ not (listed s)
+SidesListed = (s : ℕ) → sideRefused s ≡ not (listed s)

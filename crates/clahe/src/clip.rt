@@ -6,7 +6,7 @@ ghost use Prim.Native.Nat.{ℕ, _≤_, _<_, _+_, _^_};
 ghost use lib.Dec.{T, ltb};
 ghost use lib.ListN.{length, getD};
 ghost use lib.Ieee.{binary64, add, sub, div, lt, le, toUnsigned};
-ghost use Rattle.spec.specs.Floats.{zero64, ofCount, rounded};
+ghost use Rattle.spec.specs.Floats.{zero64, ofCount, roundAsU64};
 ghost use Rattle.spec.specs.Lists.{sumOf};
 ghost use Rattle.spec.specs.Clahe as Clahe;
 
@@ -92,7 +92,7 @@ pub fn each_of(over: f64) -> u64
 
 // What is left of it, rounded.
 pub fn rest_of(over: f64, given: f64) -> u64
-    ensures { λ r. ⌜ r ≡ rounded (sub binary64 over given) ⌝ }
+    ensures { λ r. ⌜ r ≡ roundAsU64 (sub binary64 over given) ⌝ }
 {
     numeric::round_f64_as_u64(over - given)
 }

@@ -11,7 +11,7 @@ use super::tiles::tile_start;
 
 // The place of a value in a window.
 pub fn normalised(v: f64, low: f64, high: f64, range: f64) -> f64
-    ensures { λ r. ⌜ r ≡ Value.normalised low high range v ⌝ }
+    ensures { λ r. ⌜ r ≡ Value.normalized low high range v ⌝ }
 {
     (numeric::clamp_f64(v, low, high) - low) / range
 }

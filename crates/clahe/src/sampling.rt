@@ -17,7 +17,7 @@ pub fn past(position: f64, middle: f64) -> f64
 // Where row or column i lies among tiles of that side.
 pub fn tile_position(side: usize, i: usize) -> TilePosition
     requires { ⌜ (side ≤ 4096) × (i ≤ 4096) ⌝ }
-    ensures { λ r. ⌜ r ≡ Clahe.positionOf side i ⌝ }
+    ensures { λ r. ⌜ r ≡ Clahe.tilePosition side i ⌝ }
 {
     let position = i as f64 / side as f64 - 0.5;
     let k = numeric::f64_as_u64(position);

@@ -4,7 +4,7 @@ ghost use Prim.Native.Nat.{_≤_, _<_, _^_};
 ghost use mathlib.Core.List.{map};
 ghost use lib.Ieee.{binary64, div};
 ghost use lib.ListN.{length};
-ghost use Rattle.spec.specs.Floats.{zero64, one64, ofCount, held};
+ghost use Rattle.spec.specs.Floats.{zero64, one64, ofCount, clampFloat};
 ghost use Rattle.spec.specs.Lists.{sumOf, places};
 ghost use Rattle.spec.specs.Clahe as Clahe;
 ghost use Rattle.clahe.specs.Band.{band, Raster};
@@ -31,7 +31,7 @@ pub fn total(hist: &[u32]) -> u64
 // A running sum over the whole, held to 0..1.
 pub fn part(sum: u64, whole: f64) -> f64
     requires { ⌜ sum ≤ 2 ^ 53 ⌝ }
-    ensures { λ r. ⌜ r ≡ held zero64 one64 (div binary64 (ofCount sum) whole) ⌝ }
+    ensures { λ r. ⌜ r ≡ clampFloat zero64 one64 (div binary64 (ofCount sum) whole) ⌝ }
 {
     numeric::clamp_f64(sum as f64 / whole, 0.0, 1.0)
 }

@@ -3,7 +3,7 @@ ghost use mathlib.Core.Path.{_≡_};
 ghost use mathlib.Core.Bool.{_||_};
 ghost use Prim.Native.Nat.{_≤_, _<_};
 ghost use Rattle.spec.specs.Clahe.{tileSide, tileStart, tileSize};
-ghost use Rattle.spec.specs.Refusals.{badSide};
+ghost use Rattle.spec.specs.Refusals.{sideRefused};
 
 // How many rows or columns a tile has, but for the last one.
 pub fn tile_side(s: usize) -> usize
@@ -39,7 +39,7 @@ pub fn tile_size(s: usize, k: usize) -> usize
 
 fn side_refused(s: usize) -> bool
     requires { ⌜ s ≤ 4096 ⌝ }
-    ensures { λ r. ⌜ r ≡ badSide s ⌝ }
+    ensures { λ r. ⌜ r ≡ sideRefused s ⌝ }
 {
     7 * tile_side(s) > s
 }
@@ -47,7 +47,7 @@ fn side_refused(s: usize) -> bool
 // Refusal 5, for a band with a valid pixel.
 pub fn tiles_refused(rows: usize, cols: usize) -> bool
     requires { ⌜ (rows ≤ 4096) × (cols ≤ 4096) ⌝ }
-    ensures { λ r. ⌜ r ≡ (badSide rows || badSide cols) ⌝ }
+    ensures { λ r. ⌜ r ≡ (sideRefused rows || sideRefused cols) ⌝ }
 {
     if side_refused(rows) {
         return true;

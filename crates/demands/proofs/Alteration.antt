@@ -6,20 +6,20 @@ use Prim.Native.Nat.{ℕ, _*_}
 use lib.ListN.{length}
 use lib.Ieee.{Float}
 use Rattle.spec.specs.Altered.{Altered}
-use Rattle.spec.specs.Refusals.{unlike, notNamed}
-use Rattle.spec.specs.Statistics.{statisticsCall}
-use Rattle.spec.specs.Window.{windowCall}
-use Rattle.spec.specs.Grey.{grey8, grey16, greyTests}
-use Rattle.spec.specs.Picture.{pictureOf, pictureTests}
+use Rattle.spec.specs.Refusals.{unlike, lengthsRefused}
+use Rattle.spec.specs.Statistics.{computeHistogramStats}
+use Rattle.spec.specs.Window.{autoscaleWindow}
+use Rattle.spec.specs.Grey.{autoscaleDbImageToU8, autoscaleDbImageToU16, greyTests}
+use Rattle.spec.specs.Picture.{syntheticRgbPicture, pictureTests}
 use Rattle.raster.proofs.Alteration.{same-pixels}
 use Rattle.demands.specs.Alteration.{Alteration}
 
-same-named : (rows cols : ℕ) (m : List ℕ) (d d′ : List Float) → Altered m d d′ → notNamed rows cols m d ≡ notNamed rows cols m d′
-unfolding notNamed
+same-named : (rows cols : ℕ) (m : List ℕ) (d d′ : List Float) → Altered m d d′ → lengthsRefused rows cols m d ≡ lengthsRefused rows cols m d′
+unfolding lengthsRefused
 same-named rows cols m d d′ a = ap (λ (n : ℕ). unlike n (rows * cols) || unlike (length m) (rows * cols)) (a .sized)
 
 pub alteration : Alteration
-unfolding statisticsCall windowCall grey8 grey16 greyTests pictureOf pictureTests
+unfolding computeHistogramStats autoscaleWindow autoscaleDbImageToU8 autoscaleDbImageToU16 greyTests syntheticRgbPicture pictureTests
 alteration =
     record {
       statistics = λ rows cols m d d′ a. cc (same-pixels m d d′ a, same-named rows cols m d d′ a);

@@ -11,7 +11,7 @@ use Rattle.types.specs.declared.Moments.{Moments}
 use Rattle.types.specs.declared.Percentile.{Percentile}
 use Rattle.spec.specs.Lists.{countOf}
 use Rattle.spec.specs.Pixels.{Pixel, pixels, validOf}
-use Rattle.spec.specs.Refusals.{badMark}
+use Rattle.spec.specs.Refusals.{marksRefused}
 use Rattle.spec.specs.Moments.{noMoments, withValue, momentsFrom}
 use Rattle.spec.specs.Statistics.{gathered, summary, summaryOf, statisticsOf, flatPercentile, spreadPercentile, flat64}
 use Rattle.raster.proofs.Bands.{valid-ones}
@@ -33,5 +33,5 @@ pub count-valid : (px : List Pixel) → statisticsOf px .«valid_count» ≡ len
 unfolding statisticsOf summaryOf noMoments
 count-valid px = summary-count (momentsFrom noMoments (validOf px)) (validOf px) ∙ moments-count noMoments (validOf px) ∙ omega arith
 
-pub count-marks : (m : List ℕ) (d : List Float) → length m ≡ length d → badMark m ≡ false → statisticsOf (pixels m d) .«valid_count» ≡ countOf 1 m
+pub count-marks : (m : List ℕ) (d : List Float) → length m ≡ length d → marksRefused m ≡ false → statisticsOf (pixels m d) .«valid_count» ≡ countOf 1 m
 count-marks m d e b = count-valid (pixels m d) ∙ valid-ones m d e b

@@ -13,18 +13,18 @@ use Rattle.types.specs.declared.Clip.{Clip}
 use Rattle.types.specs.declared.SyntheticRgbMode.{SyntheticRgbMode}
 use Rattle.types.specs.declared.WindowAnswer.{WindowAnswer}
 use Rattle.types.specs.declared.WindowAnswer.the-variants.{Window, Blank, Refused}
-use Rattle.spec.specs.Floats.{zero64, held}
+use Rattle.spec.specs.Floats.{zero64, clampFloat}
 use Rattle.spec.specs.Lists.{lowest, highest}
 use Rattle.spec.specs.Answer.{done, firstOf}
 use Rattle.spec.specs.Pixels.{Pixel, off, on, pixel, pixels}
-use Rattle.spec.specs.Refusals.{notNamed, unlike, workUnlike, badPixel, badDecibel}
+use Rattle.spec.specs.Refusals.{lengthsRefused, unlike, workRefused, decibelRefused, decibelsRefused}
 use Rattle.spec.specs.Strategies.{isClahe, isTamed}
 use Rattle.spec.specs.Statistics.{statisticsOf}
-use Rattle.spec.specs.Window.{opened, chosen, tamed, windowOf, pictureWindow}
-use Rattle.spec.specs.Value.{full8, full16, normalised, valueOf, paint}
+use Rattle.spec.specs.Window.{opened, chooseClip, tamedClip, windowOf, pictureWindow}
+use Rattle.spec.specs.Value.{full8, full16, normalized, valueOf, paint}
 use Rattle.spec.specs.Stretch.{stretchByte, stretch}
-use Rattle.spec.specs.Grey.{values, greyTests, grey8, grey16}
-use Rattle.spec.specs.Picture.{Picture, Lent, pictureGreys, composed, pictureTests, pictureOf}
+use Rattle.spec.specs.Grey.{values, greyTests, autoscaleDbImageToU8, autoscaleDbImageToU16}
+use Rattle.spec.specs.Picture.{Picture, Lent, pictureGreys, composed, pictureTests, syntheticRgbPicture}
 use Rattle.numeric.proofs.Order.{Number}
 use Rattle.numeric.proofs.Picks.{clamped-hi, toUnsigned-le}
 use Rattle.raster.proofs.Bands.{or-false, pixels-length}
@@ -96,15 +96,15 @@ painter-255 : (w : WindowAnswer) (p : Pixel) → painter full8 w p ≤ 255
 unfolding painter paint valueOf
 painter-255 (Window low high range gamma) off = zero-le
 painter-255 (Window low high range gamma) (on v) =
-    let x = mul binary64 (normalised low high range v) full8 in
-    le-trans (toUnsigned-le 64 (held zero64 full8 x) full8 (clamped-hi x zero64 full8 number-full)) (le-of-eq full-is)
+    let x = mul binary64 (normalized low high range v) full8 in
+    le-trans (toUnsigned-le 64 (clampFloat zero64 full8 x) full8 (clamped-hi x zero64 full8 number-full)) (le-of-eq full-is)
 painter-255 Blank p = zero-le
 painter-255 (Refused k) p = zero-le
 
 -- ---- a band
 
 module _ (strategy : AutoscaleStrategy) (n : isClahe strategy ≡ false) (rows cols : ℕ) (m : List ℕ) (d : List Float)
-    (e : length m ≡ length d) (good : badDecibel (pixels m d) ≡ false) (blank : Bool) (c : Clip) where
+    (e : length m ≡ length d) (good : decibelsRefused (pixels m d) ≡ false) (blank : Bool) (c : Clip) where
   raw : Float → List ℕ
   raw full = values full strategy rows cols (pixels m d) (given blank c)
 
@@ -120,8 +120,8 @@ module _ (strategy : AutoscaleStrategy) (n : isClahe strategy ≡ false) (rows c
       ∙ ap (painter full (given blank c)) (pixel-at m d i e h)
 
   finite-at : (i : ℕ) → getD m i 0 ≡ 1 → Finite (getD d i nan)
-  unfolding badDecibel
-  finite-at i h = good-finite (getD d i nan) (ap badPixel (sym (pixel-at m d i e h)) ∙ good-at (pixels m d) i good)
+  unfolding decibelsRefused
+  finite-at i h = good-finite (getD d i nan) (ap decibelRefused (sym (pixel-at m d i e h)) ∙ good-at (pixels m d) i good)
 
   raw-ranked : (full : Float) → ValueOrder full → Ranked m d (raw full)
   raw-ranked full o i j hi hj h =
@@ -153,54 +153,54 @@ module _ (strategy : AutoscaleStrategy) (n : isClahe strategy ≡ false) (rows c
 
 module _ (strategy : AutoscaleStrategy) (n : isClahe strategy ≡ false) (rows cols : ℕ) (m : List ℕ) (d : List Float) (out work : ℕ) where
   -- what the tests of a grey call leave
-  accepted : (w : WindowAnswer) → firstOf 1 (greyTests strategy rows cols m d out work (pixels m d) w) ≡ 0 → (length m ≡ length d) × (badDecibel (pixels m d) ≡ false)
+  accepted : (w : WindowAnswer) → firstOf 1 (greyTests strategy rows cols m d out work (pixels m d) w) ≡ 0 → (length m ≡ length d) × (decibelsRefused (pixels m d) ≡ false)
   unfolding greyTests
   accepted w e =
       let h = none-holds 0 _ e in
-      (named-lengths rows cols m d (or-false _ (unlike out (rows * cols)) (or-false _ (workUnlike strategy work) (h .1 .0) .0) .0), h .1 .1 .1 .0)
+      (named-lengths rows cols m d (or-false _ (unlike out (rows * cols)) (or-false _ (workRefused strategy work) (h .1 .0) .0) .0), h .1 .1 .1 .0)
 
-  grey8-ranked : (greys : List ℕ) → grey8 strategy rows cols m d out work ≡ done greys → Ranked m d greys
-  unfolding grey8 windowOf raw
-  grey8-ranked greys e =
+  autoscaleDbImageToU8-ranked : (greys : List ℕ) → autoscaleDbImageToU8 strategy rows cols m d out work ≡ done greys → Ranked m d greys
+  unfolding autoscaleDbImageToU8 windowOf raw
+  autoscaleDbImageToU8-ranked greys e =
       let h = done-answer _ _ _ e in
       let a = accepted _ (h .0) in
-      subst (Ranked m d) (h .1) (stretched-ranked strategy n rows cols m d (a .0) (a .1) (eqb (statisticsOf (pixels m d) .«valid_count») 0) (chosen strategy (statisticsOf (pixels m d))))
+      subst (Ranked m d) (h .1) (stretched-ranked strategy n rows cols m d (a .0) (a .1) (eqb (statisticsOf (pixels m d) .«valid_count») 0) (chooseClip strategy (statisticsOf (pixels m d))))
 
-  grey16-ranked : (greys : List ℕ) → grey16 strategy rows cols m d out work ≡ done greys → Ranked m d greys
-  unfolding grey16 windowOf raw
-  grey16-ranked greys e =
+  autoscaleDbImageToU16-ranked : (greys : List ℕ) → autoscaleDbImageToU16 strategy rows cols m d out work ≡ done greys → Ranked m d greys
+  unfolding autoscaleDbImageToU16 windowOf raw
+  autoscaleDbImageToU16-ranked greys e =
       let h = done-answer _ _ _ e in
       let a = accepted _ (h .0) in
-      subst (Ranked m d) (h .1) (raw-ranked strategy n rows cols m d (a .0) (a .1) (eqb (statisticsOf (pixels m d) .«valid_count») 0) (chosen strategy (statisticsOf (pixels m d))) full16 order16)
+      subst (Ranked m d) (h .1) (raw-ranked strategy n rows cols m d (a .0) (a .1) (eqb (statisticsOf (pixels m d) .«valid_count») 0) (chooseClip strategy (statisticsOf (pixels m d))) full16 order16)
 
 module _ (strategy : AutoscaleStrategy) (n : isClahe strategy ≡ false) (mode : SyntheticRgbMode) (rows cols : ℕ) (m1 : List ℕ) (d1 : List Float) (m2 : List ℕ) (d2 : List Float) (lent : Lent) where
   picture-accepted : (w1 w2 : WindowAnswer) → firstOf 1 (pictureTests strategy rows cols m1 d1 m2 d2 lent (pixels m1 d1) (pixels m2 d2) w1 w2) ≡ 0 →
-      (length m1 ≡ length d1) × (badDecibel (pixels m1 d1) ≡ false) × (length m2 ≡ length d2) × (badDecibel (pixels m2 d2) ≡ false)
+      (length m1 ≡ length d1) × (decibelsRefused (pixels m1 d1) ≡ false) × (length m2 ≡ length d2) × (decibelsRefused (pixels m2 d2) ≡ false)
   unfolding pictureTests
   picture-accepted w1 w2 e =
       let h = none-holds 0 _ e in
-      let named = or-false (notNamed rows cols m1 d1 || notNamed rows cols m2 d2) (unlike (lent .grey1) (rows * cols))
-        (or-false _ (unlike (lent .grey2) (rows * cols)) (or-false _ (unlike (lent .colours) (3 * (rows * cols))) (or-false _ (workUnlike strategy (lent .work)) (h .1 .0) .0) .0) .0) .0 in
-      let names = or-false (notNamed rows cols m1 d1) (notNamed rows cols m2 d2) named in
-      let good = or-false (badDecibel (pixels m1 d1)) (badDecibel (pixels m2 d2)) (h .1 .1 .1 .0) in
+      let named = or-false (lengthsRefused rows cols m1 d1 || lengthsRefused rows cols m2 d2) (unlike (lent .grey1) (rows * cols))
+        (or-false _ (unlike (lent .grey2) (rows * cols)) (or-false _ (unlike (lent .colours) (3 * (rows * cols))) (or-false _ (workRefused strategy (lent .work)) (h .1 .0) .0) .0) .0) .0 in
+      let names = or-false (lengthsRefused rows cols m1 d1) (lengthsRefused rows cols m2 d2) named in
+      let good = or-false (decibelsRefused (pixels m1 d1)) (decibelsRefused (pixels m2 d2)) (h .1 .1 .1 .0) in
       (named-lengths rows cols m1 d1 (names .0), good .0, named-lengths rows cols m2 d2 (names .1), good .1)
 
-  picture-ranked : (p : Picture) → pictureOf strategy mode rows cols m1 d1 m2 d2 lent ≡ done p → Ranked m1 d1 (p .grey1) × Ranked m2 d2 (p .grey2)
-  unfolding pictureOf composed pictureWindow
+  picture-ranked : (p : Picture) → syntheticRgbPicture strategy mode rows cols m1 d1 m2 d2 lent ≡ done p → Ranked m1 d1 (p .grey1) × Ranked m2 d2 (p .grey2)
+  unfolding syntheticRgbPicture composed pictureWindow
   picture-ranked p e =
       let h = done-answer _ _ _ e in
       let a = picture-accepted _ _ (h .0) in
       let s1 = statisticsOf (pixels m1 d1) in
       let s2 = statisticsOf (pixels m2 d2) in
       (subst (Ranked m1 d1) (ap (λ (q : Picture). q .grey1) (h .1))
-        (greys-ranked strategy n rows cols m1 d1 (a .0) (a .1) (eqb (s1 .«valid_count») 0) (cond (isTamed strategy) (tamed true s1) (chosen strategy s1))),
+        (greys-ranked strategy n rows cols m1 d1 (a .0) (a .1) (eqb (s1 .«valid_count») 0) (cond (isTamed strategy) (tamedClip true s1) (chooseClip strategy s1))),
       subst (Ranked m2 d2) (ap (λ (q : Picture). q .grey2) (h .1))
-        (greys-ranked strategy n rows cols m2 d2 (a .2) (a .3) (eqb (s2 .«valid_count») 0) (cond (isTamed strategy) (tamed false s2) (chosen strategy s2))))
+        (greys-ranked strategy n rows cols m2 d2 (a .2) (a .3) (eqb (s2 .«valid_count») 0) (cond (isTamed strategy) (tamedClip false s2) (chooseClip strategy s2))))
 
 pub grey-order : GreyOrder
 grey-order =
     record {
-      at-8-bits = λ strategy n rows cols m d out work. grey8-ranked strategy (not-clahe strategy n) rows cols m d out work;
-      at-16-bits = λ strategy n rows cols m d out work. grey16-ranked strategy (not-clahe strategy n) rows cols m d out work;
+      at-8-bits = λ strategy n rows cols m d out work. autoscaleDbImageToU8-ranked strategy (not-clahe strategy n) rows cols m d out work;
+      at-16-bits = λ strategy n rows cols m d out work. autoscaleDbImageToU16-ranked strategy (not-clahe strategy n) rows cols m d out work;
       picture = λ strategy n mode rows cols m1 d1 m2 d2 lent. picture-ranked strategy (not-clahe strategy n) mode rows cols m1 d1 m2 d2 lent
     }

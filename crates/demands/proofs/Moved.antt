@@ -15,15 +15,15 @@ use Rattle.types.specs.declared.WindowAnswer.{WindowAnswer}
 use Rattle.spec.specs.Lists.{placesFrom, lowest, highest}
 use Rattle.spec.specs.Answer.{done, firstOf, orRefused, answer}
 use Rattle.spec.specs.Pixels.{Pixel, off, pixel, pixels, isOn}
-use Rattle.spec.specs.Refusals.{unlike, notNamed, badMark, badDecibel, badPixel, badTiles, badSide}
+use Rattle.spec.specs.Refusals.{unlike, lengthsRefused, marksRefused, decibelsRefused, decibelRefused, tilesRefused, sideRefused}
 use Rattle.spec.specs.Strategies.{isClahe, isTamed, isSuppressed}
 use Rattle.spec.specs.Statistics.{statisticsOf}
 use Rattle.spec.specs.Window.{pictureWindow}
 use Rattle.spec.specs.Value.{full8}
 use Rattle.spec.specs.Stretch.{stretch, stretchByte}
-use Rattle.spec.specs.Colour.{plain, suppressed, floorOf, coloursOf}
+use Rattle.spec.specs.Colour.{plain, suppressed, floorLevel, coloursOf}
 use Rattle.spec.specs.Grey.{values}
-use Rattle.spec.specs.Picture.{Picture, Lent, pictureGreys, composed, pictureTests, pictureOf}
+use Rattle.spec.specs.Picture.{Picture, Lent, pictureGreys, composed, pictureTests, syntheticRgbPicture}
 use Rattle.spec.specs.Places.{Order, moved, dark, movedPicture}
 use Rattle.lists.proofs.Counts.{Below}
 use Rattle.lists.proofs.Reorder.{perm-length, any-perm, lowest-perm, highest-perm, floor-perm, moved-perm, zip-moved, map-moved, map-same}
@@ -130,9 +130,9 @@ module _ (ps : List ℕ) (n : ℕ) (o : Order ps n) where
         (floor-perm (moved-perm 0 ps a (order-of a e)) (moved-perm 0 ps b (order-of b g)))
       ∙ pick (isSuppressed strategy)
     where
-      pick : (t : Bool) → cond t (zipWith (suppressed (floorOf a b)) (moved 0 ps a) (moved 0 ps b)) (zipWith plain (moved 0 ps a) (moved 0 ps b))
-        ≡ moved dark ps (cond t (zipWith (suppressed (floorOf a b)) a b) (zipWith plain a b))
-      pick true = zip-colours (suppressed (floorOf a b)) a b e g
+      pick : (t : Bool) → cond t (zipWith (suppressed (floorLevel a b)) (moved 0 ps a) (moved 0 ps b)) (zipWith plain (moved 0 ps a) (moved 0 ps b))
+        ≡ moved dark ps (cond t (zipWith (suppressed (floorLevel a b)) a b) (zipWith plain a b))
+      pick true = zip-colours (suppressed (floorLevel a b)) a b e g
       pick false = zip-colours plain a b e g
 
   answer-moved : (k : ℕ) (p q : Picture) → (q .grey1 ≡ moved 0 ps (p .grey1)) → (q .grey2 ≡ moved 0 ps (p .grey2)) → (q .colours ≡ moved dark ps (p .colours)) →
@@ -143,24 +143,24 @@ module _ (ps : List ℕ) (n : ℕ) (o : Order ps n) where
 
   -- ---- the tests of a band
 
-  named-moved : (rows cols : ℕ) (m : List ℕ) (d : List Float) → length m ≡ n → length d ≡ n → notNamed rows cols (moved 0 ps m) (moved nan ps d) ≡ notNamed rows cols m d
-  unfolding notNamed
+  named-moved : (rows cols : ℕ) (m : List ℕ) (d : List Float) → length m ≡ n → length d ≡ n → lengthsRefused rows cols (moved 0 ps m) (moved nan ps d) ≡ lengthsRefused rows cols m d
+  unfolding lengthsRefused
   named-moved rows cols m d e f =
       ap (λ (k : ℕ). unlike k (rows * cols) || unlike (length (moved 0 ps m)) (rows * cols)) (length-map ps (λ i. getD d i nan) ∙ order-size ps n o ∙ sym f)
       ∙ ap (λ (k : ℕ). unlike (length d) (rows * cols) || unlike k (rows * cols)) (length-map ps (λ i. getD m i 0) ∙ order-size ps n o ∙ sym e)
 
-  mark-moved : (m : List ℕ) → length m ≡ n → badMark (moved 0 ps m) ≡ badMark m
-  unfolding badMark
+  mark-moved : (m : List ℕ) → length m ≡ n → marksRefused (moved 0 ps m) ≡ marksRefused m
+  unfolding marksRefused
   mark-moved m e = any-perm (ltb 1) (moved-perm 0 ps m (order-of m e))
 
-  decibel-moved : (px : List Pixel) → length px ≡ n → badDecibel (moved off ps px) ≡ badDecibel px
-  unfolding badDecibel
-  decibel-moved px e = any-perm badPixel (moved-perm off ps px (order-of px e))
+  decibel-moved : (px : List Pixel) → length px ≡ n → decibelsRefused (moved off ps px) ≡ decibelsRefused px
+  unfolding decibelsRefused
+  decibel-moved px e = any-perm decibelRefused (moved-perm off ps px (order-of px e))
 
-  tiles-moved : (strategy : AutoscaleStrategy) (rows cols : ℕ) (px : List Pixel) → length px ≡ n → badTiles strategy rows cols (moved off ps px) ≡ badTiles strategy rows cols px
-  unfolding badTiles
+  tiles-moved : (strategy : AutoscaleStrategy) (rows cols : ℕ) (px : List Pixel) → length px ≡ n → tilesRefused strategy rows cols (moved off ps px) ≡ tilesRefused strategy rows cols px
+  unfolding tilesRefused
   tiles-moved strategy rows cols px e =
-      ap (λ (t : Bool). isClahe strategy && t && (badSide rows || badSide cols)) (any-perm isOn (moved-perm off ps px (order-of px e)))
+      ap (λ (t : Bool). isClahe strategy && t && (sideRefused rows || sideRefused cols)) (any-perm isOn (moved-perm off ps px (order-of px e)))
 
   pub pixels-size : (m : List ℕ) (d : List Float) → length m ≡ n → length d ≡ n → length (pixels m d) ≡ n
   pixels-size m d e f = pixels-length m d (e ∙ sym f) ∙ f
@@ -210,9 +210,9 @@ module _ (ps : List ℕ) (n : ℕ) (o : Order ps n) (strategy : AutoscaleStrateg
           tiles-moved ps n o strategy rows cols (pixels m2 d2) (pixels-size ps n o m2 d2 em2 ed2), s1 .gamma, s2 .gamma)
 
     steady-picture :
-        pictureOf strategy mode rows cols (moved 0 ps m1) (moved nan ps d1) (moved 0 ps m2) (moved nan ps d2) lent
-        ≡ movedPicture ps (pictureOf strategy mode rows cols m1 d1 m2 d2 lent)
-    unfolding pictureOf composed
+        syntheticRgbPicture strategy mode rows cols (moved 0 ps m1) (moved nan ps d1) (moved 0 ps m2) (moved nan ps d2) lent
+        ≡ movedPicture ps (syntheticRgbPicture strategy mode rows cols m1 d1 m2 d2 lent)
+    unfolding syntheticRgbPicture composed
     steady-picture =
         rw (moved-pixels ps n o m1 d1 em1 ed1, moved-pixels ps n o m2 d2 em2 ed2, tests-moved)
         (answer-moved ps n o _ _ _ (greys-of true m1 d1 em1 ed1 s1) (greys-of false m2 d2 em2 ed2 s2)
@@ -221,10 +221,10 @@ module _ (ps : List ℕ) (n : ℕ) (o : Order ps n) (strategy : AutoscaleStrateg
             (greys-size ps n o strategy c rows cols (pixels m2 d2) _ ∙ pixels-size ps n o m2 d2 em2 ed2)))
 
   -- a band with refusal 4
-  bad-picture : (badDecibel (pixels m1 d1) || badDecibel (pixels m2 d2)) ≡ true →
-      pictureOf strategy mode rows cols (moved 0 ps m1) (moved nan ps d1) (moved 0 ps m2) (moved nan ps d2) lent
-      ≡ movedPicture ps (pictureOf strategy mode rows cols m1 d1 m2 d2 lent)
-  unfolding pictureOf pictureTests
+  bad-picture : (decibelsRefused (pixels m1 d1) || decibelsRefused (pixels m2 d2)) ≡ true →
+      syntheticRgbPicture strategy mode rows cols (moved 0 ps m1) (moved nan ps d1) (moved 0 ps m2) (moved nan ps d2) lent
+      ≡ movedPicture ps (syntheticRgbPicture strategy mode rows cols m1 d1 m2 d2 lent)
+  unfolding syntheticRgbPicture pictureTests
   bad-picture h =
       rw (moved-pixels ps n o m1 d1 em1 ed1, moved-pixels ps n o m2 d2 em2 ed2, named-moved ps n o rows cols m1 d1 em1 ed1, named-moved ps n o rows cols m2 d2 em2 ed2,
         mark-moved ps n o m1 em1, mark-moved ps n o m2 em2, decibel-moved ps n o (pixels m1 d1) (pixels-size ps n o m1 d1 em1 ed1),
@@ -233,14 +233,14 @@ module _ (ps : List ℕ) (n : ℕ) (o : Order ps n) (strategy : AutoscaleStrateg
 
   -- the claim, from windows that paint alike wherever no refusal 4 stands in the way
   pub reordered-picture :
-      (badDecibel (pixels m1 d1) ≡ false → Steady (win strategy true (moved off ps (pixels m1 d1))) (win strategy true (pixels m1 d1))) →
-      (badDecibel (pixels m2 d2) ≡ false → Steady (win strategy false (moved off ps (pixels m2 d2))) (win strategy false (pixels m2 d2))) →
-      pictureOf strategy mode rows cols (moved 0 ps m1) (moved nan ps d1) (moved 0 ps m2) (moved nan ps d2) lent
-      ≡ movedPicture ps (pictureOf strategy mode rows cols m1 d1 m2 d2 lent)
-  reordered-picture s1 s2 = go (badDecibel (pixels m1 d1) || badDecibel (pixels m2 d2)) refl
+      (decibelsRefused (pixels m1 d1) ≡ false → Steady (win strategy true (moved off ps (pixels m1 d1))) (win strategy true (pixels m1 d1))) →
+      (decibelsRefused (pixels m2 d2) ≡ false → Steady (win strategy false (moved off ps (pixels m2 d2))) (win strategy false (pixels m2 d2))) →
+      syntheticRgbPicture strategy mode rows cols (moved 0 ps m1) (moved nan ps d1) (moved 0 ps m2) (moved nan ps d2) lent
+      ≡ movedPicture ps (syntheticRgbPicture strategy mode rows cols m1 d1 m2 d2 lent)
+  reordered-picture s1 s2 = go (decibelsRefused (pixels m1 d1) || decibelsRefused (pixels m2 d2)) refl
     where
-      go : (t : Bool) → (badDecibel (pixels m1 d1) || badDecibel (pixels m2 d2)) ≡ t →
-        pictureOf strategy mode rows cols (moved 0 ps m1) (moved nan ps d1) (moved 0 ps m2) (moved nan ps d2) lent
-        ≡ movedPicture ps (pictureOf strategy mode rows cols m1 d1 m2 d2 lent)
+      go : (t : Bool) → (decibelsRefused (pixels m1 d1) || decibelsRefused (pixels m2 d2)) ≡ t →
+        syntheticRgbPicture strategy mode rows cols (moved 0 ps m1) (moved nan ps d1) (moved 0 ps m2) (moved nan ps d2) lent
+        ≡ movedPicture ps (syntheticRgbPicture strategy mode rows cols m1 d1 m2 d2 lent)
       go true h = bad-picture h
-      go false h = steady-picture (s1 (or-false _ _ h .0)) (s2 (or-false (badDecibel (pixels m1 d1)) (badDecibel (pixels m2 d2)) h .1))
+      go false h = steady-picture (s1 (or-false _ _ h .0)) (s2 (or-false (decibelsRefused (pixels m1 d1)) (decibelsRefused (pixels m2 d2)) h .1))

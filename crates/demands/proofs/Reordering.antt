@@ -15,11 +15,11 @@ use Rattle.spec.specs.Number.{Alike, same}
 use Rattle.spec.specs.Answer.{Answer, refused, done}
 use Rattle.spec.specs.Lists.{any}
 use Rattle.spec.specs.Pixels.{Pixel, off, on, pixel, pixels, validOf}
-use Rattle.spec.specs.Refusals.{badPixel, badDecibel}
+use Rattle.spec.specs.Refusals.{decibelRefused, decibelsRefused}
 use Rattle.spec.specs.Moments.{noMoments, withValue, momentsFrom}
 use Rattle.spec.specs.Statistics.{statisticsOf, summaryOf}
 use Rattle.spec.specs.Colour.{bytesOf}
-use Rattle.spec.specs.Picture.{Picture, Lent, pictureOf}
+use Rattle.spec.specs.Picture.{Picture, Lent, syntheticRgbPicture}
 use Rattle.spec.specs.Places.{Order, moved, dark, movedPicture}
 use Rattle.lists.proofs.Reorder.{perm-length, valid-perm, moved-perm}
 use Rattle.numeric.proofs.Order.{Number, number-of-finite}
@@ -34,12 +34,12 @@ use Rattle.demands.proofs.Moved.{win, pixels-size, reordered-picture}
 
 -- ---- valid values are numbers, and floats of the format
 
-valid-numbers : (px : List Pixel) → any badPixel px ≡ false → Each Number (validOf px)
+valid-numbers : (px : List Pixel) → any decibelRefused px ≡ false → Each Number (validOf px)
 unfolding validOf any
 valid-numbers [] e = tt
-valid-numbers (off ∷ px) e = valid-numbers px (or-false (badPixel off) (any badPixel px) e .1)
+valid-numbers (off ∷ px) e = valid-numbers px (or-false (decibelRefused off) (any decibelRefused px) e .1)
 valid-numbers (on v ∷ px) e =
-    let h = or-false (badPixel (on v)) (any badPixel px) e in
+    let h = or-false (decibelRefused (on v)) (any decibelRefused px) e in
     (number-of-finite v (good-finite v (h .0)), valid-numbers px (h .1))
 
 valid-fits : (m : List ℕ) (d : List Float) → AreF64 d → Each Fits (validOf (pixels m d))
@@ -66,14 +66,14 @@ same-moments (v ∷ vs) (w ∷ ws) p a b =
     alike : {x y x′ y′ : Float} → x ≡ x′ → y ≡ y′ → Alike x′ y′ → Alike x y
     alike {y} {x′} e f h = subst (λ (z : Float). Alike z y) (sym e) (subst (λ (z : Float). Alike x′ z) (sym f) h)
 
-same-numbers : (px qx : List Pixel) → List·Permᴰ px qx → badDecibel px ≡ false → Each Fits (validOf px) → SameNumbers (statisticsOf px) (statisticsOf qx)
-unfolding statisticsOf summaryOf badDecibel
+same-numbers : (px qx : List Pixel) → List·Permᴰ px qx → decibelsRefused px ≡ false → Each Fits (validOf px) → SameNumbers (statisticsOf px) (statisticsOf qx)
+unfolding statisticsOf summaryOf decibelsRefused
 same-numbers px qx p e f = summary-alike _ _ (same-moments (validOf px) (validOf qx) (valid-perm p) (valid-numbers px e) f) (valid-perm p)
 
 -- ---- a picture
 
 module _ (ps : List ℕ) (n : ℕ) (o : Order ps n) (strategy : AutoscaleStrategy) (r : Reorders strategy) where
-  band-steady : (copol : Bool) (m : List ℕ) (d : List Float) → length m ≡ n → length d ≡ n → AreF64 d → badDecibel (pixels m d) ≡ false →
+  band-steady : (copol : Bool) (m : List ℕ) (d : List Float) → length m ≡ n → length d ≡ n → AreF64 d → decibelsRefused (pixels m d) ≡ false →
       Steady (win strategy copol (moved off ps (pixels m d))) (win strategy copol (pixels m d))
   band-steady copol m d e f h g =
       let p : List·Permᴰ (pixels m d) (moved off ps (pixels m d)) = Permᴰ·symm (moved-perm off ps (pixels m d) (subst (Order ps) (sym (pixels-size ps n o m d e f)) o)) in
@@ -85,8 +85,8 @@ module _ (ps : List ℕ) (n : ℕ) (o : Order ps n) (strategy : AutoscaleStrateg
   -- reply, greys and colours of the reordered scene are those of the scene, moved
   reordered : (mode : SyntheticRgbMode) (rows cols : ℕ) (m1 : List ℕ) (d1 : List Float) (m2 : List ℕ) (d2 : List Float) (lent : Lent) →
       length m1 ≡ n → length d1 ≡ n → length m2 ≡ n → length d2 ≡ n → AreF64 d1 → AreF64 d2 →
-      pictureOf strategy mode rows cols (moved 0 ps m1) (moved nan ps d1) (moved 0 ps m2) (moved nan ps d2) lent
-      ≡ movedPicture ps (pictureOf strategy mode rows cols m1 d1 m2 d2 lent)
+      syntheticRgbPicture strategy mode rows cols (moved 0 ps m1) (moved nan ps d1) (moved 0 ps m2) (moved nan ps d2) lent
+      ≡ movedPicture ps (syntheticRgbPicture strategy mode rows cols m1 d1 m2 d2 lent)
   reordered mode rows cols m1 d1 m2 d2 lent em1 ed1 em2 ed2 f1 f2 =
       reordered-picture ps n o strategy mode (not-clahe strategy (r .1)) rows cols m1 d1 m2 d2 lent em1 ed1 em2 ed2 (band-steady true m1 d1 em1 ed1 f1) (band-steady false m2 d2 em2 ed2 f2)
 

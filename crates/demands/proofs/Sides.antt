@@ -19,16 +19,16 @@ use Rattle.types.specs.declared.WindowAnswer.the-variants.{Blank}
 use Rattle.spec.specs.Answer.{Answer, done, firstOf, orRefused, answer, number}
 use Rattle.spec.specs.Lists.{countOf, sumOf}
 use Rattle.spec.specs.Pixels.{pixels}
-use Rattle.spec.specs.Refusals.{tooWide, notNamed, unlike, workUnlike, badMark, badDecibel, badTiles}
+use Rattle.spec.specs.Refusals.{sidesRefused, lengthsRefused, unlike, workRefused, marksRefused, decibelsRefused, tilesRefused}
 use Rattle.spec.specs.Strategies.{isTamed}
 use Rattle.spec.specs.Bins.{binOf, histogram}
-use Rattle.spec.specs.Statistics.{statisticsOf, statisticsCall}
-use Rattle.spec.specs.Window.{inside, narrow, heavy, wide, normal, standard, robust, chosen, tamed, opened, windowOf, pictureWindow, otherGamma, readWindow, windowCall}
+use Rattle.spec.specs.Statistics.{statisticsOf, computeHistogramStats}
+use Rattle.spec.specs.Window.{validRange, lowContrastClip, heavyTailedClip, highRangeClip, normalClip, standardClip, robustClip, chooseClip, tamedClip, opened, windowOf, pictureWindow, gammaRefused, readWindow, autoscaleWindow}
 use Rattle.spec.specs.Value.{full8}
 use Rattle.spec.specs.Stretch.{stretch}
-use Rattle.spec.specs.Grey.{values, greyTests, grey8}
-use Rattle.spec.specs.Colour.{composition}
-use Rattle.spec.specs.Picture.{Picture, Lent, pictureGreys, composed, pictureTests, pictureOf}
+use Rattle.spec.specs.Grey.{values, greyTests, autoscaleDbImageToU8}
+use Rattle.spec.specs.Colour.{createSyntheticRgbByModeAndStrategy}
+use Rattle.spec.specs.Picture.{Picture, Lent, pictureGreys, composed, pictureTests, syntheticRgbPicture}
 use Rattle.lists.proofs.Counts.{Below, counts-sum}
 use Rattle.raster.proofs.Bands.{or-false}
 use Rattle.demands.specs.Sides.{withMean, Sides}
@@ -37,8 +37,8 @@ use Rattle.demands.proofs.Counted.{count-marks}
 
 -- ---- the count
 
-count-is : (rows cols : ℕ) (m : List ℕ) (d : List Float) (s : HistogramStats) → statisticsCall rows cols m d ≡ done s → s .«valid_count» ≡ countOf 1 m
-unfolding statisticsCall
+count-is : (rows cols : ℕ) (m : List ℕ) (d : List Float) (s : HistogramStats) → computeHistogramStats rows cols m d ≡ done s → s .«valid_count» ≡ countOf 1 m
+unfolding computeHistogramStats
 count-is rows cols m d s e =
     let h = done-answer _ _ _ e in
     let a = none-holds 0 _ (h .0) in
@@ -76,25 +76,25 @@ blank-only true c e = refl
 blank-only false c e = let z = ap length (done-same _ _ e) in absurd (omega (arith, z))
 
 module _ (strategy : AutoscaleStrategy) (rows cols : ℕ) (m : List ℕ) (d : List Float) where
-  named : firstOf 1 (tooWide rows cols ∷ notNamed rows cols m d ∷ badMark m ∷ badDecibel (pixels m d) ∷ []) ≡ 0 → statisticsOf (pixels m d) .«valid_count» ≡ countOf 1 m
+  named : firstOf 1 (sidesRefused rows cols ∷ lengthsRefused rows cols m d ∷ marksRefused m ∷ decibelsRefused (pixels m d) ∷ []) ≡ 0 → statisticsOf (pixels m d) .«valid_count» ≡ countOf 1 m
   named e = let a = none-holds 0 _ e in count-marks m d (named-lengths rows cols m d (a .1 .0)) (a .1 .1 .0)
 
-  is-blank : number (windowCall strategy rows cols m d) ≡ 0 → countOf 1 m ≡ 0 → windowCall strategy rows cols m d ≡ done []
-  unfolding windowCall windowOf
+  is-blank : number (autoscaleWindow strategy rows cols m d) ≡ 0 → countOf 1 m ≡ 0 → autoscaleWindow strategy rows cols m d ≡ done []
+  unfolding autoscaleWindow windowOf
   is-blank e z =
       let k = number-zero _ _ e in
-      or-zero _ _ k ∙ blank-window _ (chosen strategy (statisticsOf (pixels m d))) (eq-eqb _ _ (named k ∙ z))
+      or-zero _ _ k ∙ blank-window _ (chooseClip strategy (statisticsOf (pixels m d))) (eq-eqb _ _ (named k ∙ z))
 
-  none-marked : windowCall strategy rows cols m d ≡ done [] → countOf 1 m ≡ 0
-  unfolding windowCall windowOf
+  none-marked : autoscaleWindow strategy rows cols m d ≡ done [] → countOf 1 m ≡ 0
+  unfolding autoscaleWindow windowOf
   none-marked e =
       let h = done-or-refused _ _ _ e in
-      sym (named (h .0)) ∙ eqb-true _ _ (blank-only _ (chosen strategy (statisticsOf (pixels m d))) (h .1))
+      sym (named (h .0)) ∙ eqb-true _ _ (blank-only _ (chooseClip strategy (statisticsOf (pixels m d))) (h .1))
 
 -- ---- the mean and the deviation
 
-clip-unread : (strategy : AutoscaleStrategy) → (strategy ≡ Adaptive → ⊥) → (s : HistogramStats) (m d : Float) → chosen strategy (withMean m d s) ≡ chosen strategy s
-unfolding chosen standard robust inside narrow heavy wide normal
+clip-unread : (strategy : AutoscaleStrategy) → (strategy ≡ Adaptive → ⊥) → (s : HistogramStats) (m d : Float) → chooseClip strategy (withMean m d s) ≡ chooseClip strategy s
+unfolding chooseClip standardClip robustClip validRange lowContrastClip heavyTailedClip highRangeClip normalClip
 clip-unread Standard n s m d = refl
 clip-unread Robust n s m d = refl
 clip-unread Adaptive n s m d = absurd (n refl)
@@ -103,10 +103,10 @@ clip-unread Clahe n s m d = refl
 clip-unread Tamed n s m d = refl
 clip-unread Default n s m d = refl
 
-tamed-unread : (copol : Bool) (s : HistogramStats) (m d : Float) → tamed copol (withMean m d s) ≡ tamed copol s
-unfolding tamed
-tamed-unread true s m d = refl
-tamed-unread false s m d = refl
+tamedClip-unread : (copol : Bool) (s : HistogramStats) (m d : Float) → tamedClip copol (withMean m d s) ≡ tamedClip copol s
+unfolding tamedClip
+tamedClip-unread true s m d = refl
+tamedClip-unread false s m d = refl
 
 window-unread : (strategy : AutoscaleStrategy) → (strategy ≡ Adaptive → ⊥) → (s : HistogramStats) (m d : Float) → windowOf strategy (withMean m d s) ≡ windowOf strategy s
 unfolding windowOf
@@ -116,8 +116,8 @@ picture-unread : (strategy : AutoscaleStrategy) → (strategy ≡ Adaptive → �
     pictureWindow strategy copol (withMean m d s) ≡ pictureWindow strategy copol s
 unfolding pictureWindow
 picture-unread strategy n copol s m d =
-    ap (λ (c : Clip). cond (eqb (s .«valid_count») 0) Blank (opened (cond (isTamed strategy) c (chosen strategy (withMean m d s))))) (tamed-unread copol s m d)
-    ∙ ap (λ (c : Clip). cond (eqb (s .«valid_count») 0) Blank (opened (cond (isTamed strategy) (tamed copol s) c))) (clip-unread strategy n s m d)
+    ap (λ (c : Clip). cond (eqb (s .«valid_count») 0) Blank (opened (cond (isTamed strategy) c (chooseClip strategy (withMean m d s))))) (tamedClip-unread copol s m d)
+    ∙ ap (λ (c : Clip). cond (eqb (s .«valid_count») 0) Blank (opened (cond (isTamed strategy) (tamedClip copol s) c))) (clip-unread strategy n s m d)
 
 -- ---- the greys of a picture
 
@@ -144,38 +144,38 @@ module _ (strategy : AutoscaleStrategy) (n : isTamed strategy ≡ false) (rows c
   win : WindowAnswer
   win = pictureWindow strategy copol (statisticsOf (pixels m d))
 
-  grey-done : tooWide rows cols ≡ false → notNamed rows cols m d ≡ false → unlike out (rows * cols) ≡ false → workUnlike strategy work ≡ false → badMark m ≡ false →
-      badDecibel (pixels m d) ≡ false → badTiles strategy rows cols (pixels m d) ≡ false → otherGamma win ≡ false →
-      grey8 strategy rows cols m d out work ≡ done (pictureGreys strategy rows cols (pixels m d) win)
-  unfolding grey8 greyTests win answer
+  grey-done : sidesRefused rows cols ≡ false → lengthsRefused rows cols m d ≡ false → unlike out (rows * cols) ≡ false → workRefused strategy work ≡ false → marksRefused m ≡ false →
+      decibelsRefused (pixels m d) ≡ false → tilesRefused strategy rows cols (pixels m d) ≡ false → gammaRefused win ≡ false →
+      autoscaleDbImageToU8 strategy rows cols m d out work ≡ done (pictureGreys strategy rows cols (pixels m d) win)
+  unfolding autoscaleDbImageToU8 greyTests win answer
   grey-done a b c e f g h i =
-      or-zero _ _ (all-clear 1 _ (a, (both-false (both-false b c) e, (f, (g, (h, (ap otherGamma (sym (window-same strategy n copol (statisticsOf (pixels m d)))) ∙ i, tt)))))))
+      or-zero _ _ (all-clear 1 _ (a, (both-false (both-false b c) e, (f, (g, (h, (ap gammaRefused (sym (window-same strategy n copol (statisticsOf (pixels m d)))) ∙ i, tt)))))))
       ∙ ap done (ap (λ (w : WindowAnswer). stretch (values full8 strategy rows cols (pixels m d) w)) (sym (window-same strategy n copol (statisticsOf (pixels m d))))
         ∙ sym (greys-same strategy n rows cols (pixels m d) _))
 
 module _ (strategy : AutoscaleStrategy) (n : isTamed strategy ≡ false) (mode : SyntheticRgbMode) (rows cols : ℕ) (m1 : List ℕ) (d1 : List Float) (m2 : List ℕ) (d2 : List Float) (lent : Lent) where
-  picture-grey : (p : Picture) → pictureOf strategy mode rows cols m1 d1 m2 d2 lent ≡ done p →
-      (grey8 strategy rows cols m1 d1 (lent .grey1) (lent .work) ≡ done (p .grey1)) × (grey8 strategy rows cols m2 d2 (lent .grey2) (lent .work) ≡ done (p .grey2))
-  unfolding pictureOf pictureTests composed win
+  picture-grey : (p : Picture) → syntheticRgbPicture strategy mode rows cols m1 d1 m2 d2 lent ≡ done p →
+      (autoscaleDbImageToU8 strategy rows cols m1 d1 (lent .grey1) (lent .work) ≡ done (p .grey1)) × (autoscaleDbImageToU8 strategy rows cols m2 d2 (lent .grey2) (lent .work) ≡ done (p .grey2))
+  unfolding syntheticRgbPicture pictureTests composed win
   picture-grey p e =
       let h = done-answer _ _ _ e in
       let a = none-holds 0 _ (h .0) in
-      let b5 = or-false _ (workUnlike strategy (lent .work)) (a .1 .0) in
+      let b5 = or-false _ (workRefused strategy (lent .work)) (a .1 .0) in
       let b4 = or-false _ (unlike (lent .colours) (3 * (rows * cols))) (b5 .0) in
       let b3 = or-false _ (unlike (lent .grey2) (rows * cols)) (b4 .0) in
-      let b2 = or-false (notNamed rows cols m1 d1 || notNamed rows cols m2 d2) (unlike (lent .grey1) (rows * cols)) (b3 .0) in
-      let names = or-false (notNamed rows cols m1 d1) (notNamed rows cols m2 d2) (b2 .0) in
-      let marks = or-false (badMark m1) (badMark m2) (a .1 .1 .0) in
-      let good = or-false (badDecibel (pixels m1 d1)) (badDecibel (pixels m2 d2)) (a .1 .1 .1 .0) in
-      let tiles = or-false (badTiles strategy rows cols (pixels m1 d1)) (badTiles strategy rows cols (pixels m2 d2)) (a .1 .1 .1 .1 .0) in
-      let gammas = or-false (otherGamma (pictureWindow strategy true (statisticsOf (pixels m1 d1)))) (otherGamma (pictureWindow strategy false (statisticsOf (pixels m2 d2)))) (a .1 .1 .1 .1 .1 .0) in
+      let b2 = or-false (lengthsRefused rows cols m1 d1 || lengthsRefused rows cols m2 d2) (unlike (lent .grey1) (rows * cols)) (b3 .0) in
+      let names = or-false (lengthsRefused rows cols m1 d1) (lengthsRefused rows cols m2 d2) (b2 .0) in
+      let marks = or-false (marksRefused m1) (marksRefused m2) (a .1 .1 .0) in
+      let good = or-false (decibelsRefused (pixels m1 d1)) (decibelsRefused (pixels m2 d2)) (a .1 .1 .1 .0) in
+      let tiles = or-false (tilesRefused strategy rows cols (pixels m1 d1)) (tilesRefused strategy rows cols (pixels m2 d2)) (a .1 .1 .1 .1 .0) in
+      let gammas = or-false (gammaRefused (pictureWindow strategy true (statisticsOf (pixels m1 d1)))) (gammaRefused (pictureWindow strategy false (statisticsOf (pixels m2 d2)))) (a .1 .1 .1 .1 .1 .0) in
       (grey-done strategy n rows cols m1 d1 (lent .grey1) (lent .work) true (a .0) (names .0) (b2 .1) (b5 .1) (marks .0) (good .0) (tiles .0) (gammas .0)
         ∙ ap done (ap (λ (q : Picture). q .grey1) (h .1)),
       grey-done strategy n rows cols m2 d2 (lent .grey2) (lent .work) false (a .0) (names .1) (b3 .1) (b5 .1) (marks .1) (good .1) (tiles .1) (gammas .1)
         ∙ ap done (ap (λ (q : Picture). q .grey2) (h .1)))
 
 pub sides : Sides
-unfolding pictureOf composition
+unfolding syntheticRgbPicture createSyntheticRgbByModeAndStrategy
 sides =
     record {
       count = count-is;

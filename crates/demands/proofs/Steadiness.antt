@@ -15,19 +15,19 @@ use Rattle.types.specs.declared.Moments.{Moments}
 use Rattle.types.specs.declared.Percentile.{Percentile}
 use Rattle.types.specs.declared.WindowAnswer.{WindowAnswer}
 use Rattle.types.specs.declared.WindowAnswer.the-variants.{Blank}
-use Rattle.spec.specs.Floats.{half64, one64, two64, larger}
+use Rattle.spec.specs.Floats.{half64, one64, two64, maxFloat}
 use Rattle.spec.specs.Lists.{counts}
 use Rattle.spec.specs.Number.{Alike, same, zeros}
 use Rattle.spec.specs.Pixels.{Pixel, off, on}
 use Rattle.spec.specs.Bins.{bins64, binOf, histogram}
-use Rattle.spec.specs.Percentile.{valueAt, percentile}
+use Rattle.spec.specs.Percentile.{valueAt, estimatePercentile}
 use Rattle.spec.specs.Statistics.{gathered, flatPercentile, spreadPercentile, flat64, summary}
 use Rattle.spec.specs.Strategies.{isTamed}
-use Rattle.spec.specs.Value.{normalised, valueOf, paint}
-use Rattle.spec.specs.Window.{inside, narrow, outlier, heavy, wide, normal, standard, robust, chosen, tamed, opened, pictureWindow, otherGamma}
+use Rattle.spec.specs.Value.{normalized, valueOf, paint}
+use Rattle.spec.specs.Window.{validRange, lowContrastClip, outlier, heavyTailedClip, highRangeClip, normalClip, standardClip, robustClip, chooseClip, tamedClip, opened, pictureWindow, gammaRefused}
 use Rattle.lists.proofs.Counts.{counts-perm}
 use Rattle.lists.proofs.Reorder.{perm-map, map-same}
-use Rattle.numeric.proofs.Alike.{add-alike, sub-alike, mul-alike, mul-alike-right, div-alike, lt-alike, larger-alike, smaller-alike, held-alike, whole-alike, larger-same}
+use Rattle.numeric.proofs.Alike.{add-alike, sub-alike, mul-alike, mul-alike-right, div-alike, lt-alike, maxFloat-alike, minFloat-alike, clampFloat-alike, whole-alike, maxFloat-same}
 use Rattle.demands.proofs.Painted.{painter}
 
 -- ---- where a zero's sign ends
@@ -35,7 +35,7 @@ use Rattle.demands.proofs.Painted.{painter}
 -- the bin of a value
 bin-alike : (inv : Float) {least least′ : Float} → Alike least least′ → (v : Float) → binOf least inv v ≡ binOf least′ inv v
 unfolding binOf
-bin-alike inv p v = ap (λ (b : ℕ). min b 4095) (whole-alike (mul-alike bins64 (held-alike same same (mul-alike inv (sub-alike same p)))))
+bin-alike inv p v = ap (λ (b : ℕ). min b 4095) (whole-alike (mul-alike bins64 (clampFloat-alike same same (mul-alike inv (sub-alike same p)))))
 
 -- a span that is not flat is no zero
 nil-flat : (s : Bool) → lt (fin s 0 (pos 0)) flat64 ≡ true
@@ -52,14 +52,14 @@ one-positive : T (positive one64)
 unfolding ofBits
 one-positive = tt
 
-range-alike : {low low′ high high′ : Float} → Alike low low′ → Alike high high′ → larger (sub binary64 high low) one64 ≡ larger (sub binary64 high′ low′) one64
-range-alike p q = larger-same one64 one-positive (sub-alike q p)
+range-alike : {low low′ high high′ : Float} → Alike low low′ → Alike high high′ → maxFloat (sub binary64 high low) one64 ≡ maxFloat (sub binary64 high′ low′) one64
+range-alike p q = maxFloat-same one64 one-positive (sub-alike q p)
 
 -- the value of a pixel
 value-alike : (full range v : Float) {low low′ high high′ : Float} → Alike low low′ → Alike high high′ →
     valueOf full low high range v ≡ valueOf full low′ high′ range v
-unfolding valueOf normalised
-value-alike full range v p q = whole-alike (held-alike same same (mul-alike full (div-alike range (sub-alike (held-alike p q same) p))))
+unfolding valueOf normalized
+value-alike full range v p q = whole-alike (clampFloat-alike same same (mul-alike full (div-alike range (sub-alike (clampFloat-alike p q same) p))))
 
 -- ---- statistics
 
@@ -110,7 +110,7 @@ module _ (s s′ : Moments) (h : SameMoments s s′) where
 
   -- the bins do not see a zero's sign, and counting does not see the order
   spread-alike : (span : Float) {vs vs′ : List Float} → List·Permᴰ vs vs′ → (p : Float) → Alike (spreadPercentile s span vs p .value) (spreadPercentile s′ span vs′ p .value)
-  unfolding spreadPercentile percentile valueAt histogram
+  unfolding spreadPercentile estimatePercentile valueAt histogram
   spread-alike span {vs} {vs′} o p =
       let bin = binOf (s .«min_db») (div binary64 one64 span) in
       let hist = counts-perm 4096 (perm-map bin o) ∙ ap (counts 4096) (map-same bin (binOf (s′ .«min_db») (div binary64 one64 span)) (bin-alike (div binary64 one64 span) (h .least)) vs′) in
@@ -145,9 +145,9 @@ either true false e p r = absurd (true≢false e)
 either false true e p r = absurd (true≢false (sym e))
 
 module _ (s s′ : HistogramStats) (h : SameNumbers s s′) where
-  inside-alike : (g : Float) {l l′ t t′ : Float} → Alike l l′ → Alike t t′ → SameClip (inside s l t g) (inside s′ l′ t′ g)
-  unfolding inside
-  inside-alike g p q = record { low = larger-alike p (h .least); high = smaller-alike q (h .greatest); gamma = refl }
+  validRange-alike : (g : Float) {l l′ t t′ : Float} → Alike l l′ → Alike t t′ → SameClip (validRange s l t g) (validRange s′ l′ t′ g)
+  unfolding validRange
+  validRange-alike g p q = record { low = maxFloat-alike p (h .least); high = minFloat-alike q (h .greatest); gamma = refl }
 
   spread : Alike (sub binary64 (s .«max_db») (s .«min_db»)) (sub binary64 (s′ .«max_db») (s′ .«min_db»))
   spread = sub-alike (h .greatest) (h .least)
@@ -159,46 +159,46 @@ module _ (s s′ : HistogramStats) (h : SameNumbers s s′) where
   unfolding outlier
   reach = mul-alike-right _ iqr
 
-  standard-alike : SameClip (standard s) (standard s′)
-  unfolding standard narrow heavy wide normal
-  standard-alike =
-      let r = larger-alike same (mul-alike (ofBits binary64 0x3fe9_9999_9999_999a) spread) in
+  standardClip-alike : SameClip (standardClip s) (standardClip s′)
+  unfolding standardClip lowContrastClip heavyTailedClip highRangeClip normalClip
+  standardClip-alike =
+      let r = maxFloat-alike same (mul-alike (ofBits binary64 0x3fe9_9999_9999_999a) spread) in
       let margin = mul-alike-right (ofBits binary64 0x3f94_7ae1_47ae_147b) spread in
-      either _ _ (lt-alike spread same) (inside-alike _ (sub-alike (h .median) (div-alike two64 r)) (add-alike (h .median) (div-alike two64 r)))
-      (either _ _ (lt-alike iqr same) (inside-alike _ (sub-alike (h .p25) reach) (add-alike (h .p75) reach))
+      either _ _ (lt-alike spread same) (validRange-alike _ (sub-alike (h .median) (div-alike two64 r)) (add-alike (h .median) (div-alike two64 r)))
+      (either _ _ (lt-alike iqr same) (validRange-alike _ (sub-alike (h .p25) reach) (add-alike (h .p75) reach))
       (either _ _ (lt-alike same spread)
-        (inside-alike _ (larger-alike (h .p02) (add-alike (h .least) margin)) (smaller-alike (h .p98) (sub-alike (h .greatest) margin)))
-        (inside-alike _ (h .p02) (h .p98))))
+        (validRange-alike _ (maxFloat-alike (h .p02) (add-alike (h .least) margin)) (minFloat-alike (h .p98) (sub-alike (h .greatest) margin)))
+        (validRange-alike _ (h .p02) (h .p98))))
 
-  chosen-alike : (strategy : AutoscaleStrategy) → (strategy ≡ Adaptive → ⊥) → SameClip (chosen strategy s) (chosen strategy s′)
-  unfolding chosen robust
-  chosen-alike Standard n = standard-alike
-  chosen-alike Robust n =
+  chooseClip-alike : (strategy : AutoscaleStrategy) → (strategy ≡ Adaptive → ⊥) → SameClip (chooseClip strategy s) (chooseClip strategy s′)
+  unfolding chooseClip robustClip
+  chooseClip-alike Standard n = standardClip-alike
+  chooseClip-alike Robust n =
       record {
-        low = larger-alike (larger-alike (sub-alike (h .p25) reach) (h .p01)) (h .least);
-        high = smaller-alike (smaller-alike (add-alike (h .p75) reach) (h .p99)) (h .greatest);
+        low = maxFloat-alike (maxFloat-alike (sub-alike (h .p25) reach) (h .p01)) (h .least);
+        high = minFloat-alike (minFloat-alike (add-alike (h .p75) reach) (h .p99)) (h .greatest);
         gamma = refl
       }
-  chosen-alike Adaptive n = absurd (n refl)
-  chosen-alike Equalized n = record { low = h .p01; high = h .p99; gamma = refl }
-  chosen-alike Clahe n = record { low = h .p01; high = h .p99; gamma = refl }
-  chosen-alike Tamed n = record { low = h .p25; high = h .p99; gamma = refl }
-  chosen-alike Default n = record { low = h .p05; high = h .p95; gamma = refl }
+  chooseClip-alike Adaptive n = absurd (n refl)
+  chooseClip-alike Equalized n = record { low = h .p01; high = h .p99; gamma = refl }
+  chooseClip-alike Clahe n = record { low = h .p01; high = h .p99; gamma = refl }
+  chooseClip-alike Tamed n = record { low = h .p25; high = h .p99; gamma = refl }
+  chooseClip-alike Default n = record { low = h .p05; high = h .p95; gamma = refl }
 
-  tamed-alike : (copol : Bool) → SameClip (tamed copol s) (tamed copol s′)
-  unfolding tamed
-  tamed-alike true = record { low = smaller-alike (h .p02) (h .p05); high = h .p99; gamma = refl }
-  tamed-alike false = record { low = h .p05; high = h .p99; gamma = refl }
+  tamedClip-alike : (copol : Bool) → SameClip (tamedClip copol s) (tamedClip copol s′)
+  unfolding tamedClip
+  tamedClip-alike true = record { low = minFloat-alike (h .p02) (h .p05); high = h .p99; gamma = refl }
+  tamedClip-alike false = record { low = h .p05; high = h .p99; gamma = refl }
 
 -- ---- painting
 
 -- two windows of which one paints as the other
 pub record Steady (w w′ : WindowAnswer) : Type 0 where
-  pub gamma : otherGamma w ≡ otherGamma w′
+  pub gamma : gammaRefused w ≡ gammaRefused w′
   pub paints : (full : Float) (p : Pixel) → painter full w p ≡ painter full w′ p
 
 opened-alike : (c c′ : Clip) → SameClip c c′ → Steady (opened c) (opened c′)
-unfolding opened otherGamma painter paint
+unfolding opened gammaRefused painter paint
 opened-alike c c′ a = record { gamma = ap (λ (g : Float). ne g one64) (a .gamma); paints = paints }
   where
     paints : (full : Float) (p : Pixel) → painter full (opened c) p ≡ painter full (opened c′) p
@@ -212,9 +212,9 @@ unfolding pictureWindow
 window-steady strategy n copol s s′ h =
     none (eqb (s .«valid_count») 0) (eqb (s′ .«valid_count») 0) (ap (λ (n : ℕ). eqb n 0) (h .count)) (opened-alike _ _ (which (isTamed strategy)))
   where
-    which : (t : Bool) → SameClip (cond t (tamed copol s) (chosen strategy s)) (cond t (tamed copol s′) (chosen strategy s′))
-    which true = tamed-alike s s′ h copol
-    which false = chosen-alike s s′ h strategy n
+    which : (t : Bool) → SameClip (cond t (tamedClip copol s) (chooseClip strategy s)) (cond t (tamedClip copol s′) (chooseClip strategy s′))
+    which true = tamedClip-alike s s′ h copol
+    which false = chooseClip-alike s s′ h strategy n
     none : (t t′ : Bool) → t ≡ t′ → {w w′ : WindowAnswer} → Steady w w′ → Steady (cond t Blank w) (cond t′ Blank w′)
     none true true e k = record { gamma = refl; paints = λ full p. refl }
     none false false e k = k

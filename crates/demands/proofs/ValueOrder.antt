@@ -8,12 +8,12 @@ use lib.Dec.{T}
 use lib.Ieee.{Float, nan, inf, fin, binary64, neg, add, sub, mul, div, lt, le, ofBits, toUnsigned}
 use lib.Ieee.Positive.{positive, above, above-of-le}
 use lib.Ieee.Scale.{finite}
-use Rattle.spec.specs.Floats.{zero64, one64, larger, smaller, held}
+use Rattle.spec.specs.Floats.{zero64, one64, maxFloat, minFloat, clampFloat}
 use Rattle.types.specs.declared.Clip.{Clip}
-use Rattle.spec.specs.Value.{full8, full16, normalised, valueOf}
+use Rattle.spec.specs.Value.{full8, full16, normalized, valueOf}
 use Rattle.numeric.proofs.Order.{Number, number-of-finite}
 use Rattle.numeric.proofs.Ops.{sub-le, mul-le, div-le}
-use Rattle.numeric.proofs.Picks.{larger-le, smaller-le, clamped-le, above-larger, toUnsigned-le}
+use Rattle.numeric.proofs.Picks.{maxFloat-le, minFloat-le, clamped-le, above-max, toUnsigned-le}
 
 one-positive : T (positive one64)
 unfolding ofBits
@@ -28,7 +28,7 @@ unfolding ofBits
 zero-number = tt
 
 abbrev range : Float → Float → Float
-range low high = larger (sub binary64 high low) one64
+range low high = maxFloat (sub binary64 high low) one64
 
 finite-or-top : (z : Float) → T (above z) → T (positive z) ⊎ (z ≡ inf false)
 finite-or-top nan h = absurd h
@@ -38,19 +38,19 @@ finite-or-top (fin true m e) h = absurd h
 finite-or-top (fin false m e) h = inl h
 
 range-is : (low high : Float) → T (positive (range low high)) ⊎ (range low high ≡ inf false)
-range-is low high = finite-or-top (range low high) (above-of-le one64 (range low high) one-positive (above-larger (sub binary64 high low) one64 one-number))
+range-is low high = finite-or-top (range low high) (above-of-le one64 (range low high) one-positive (above-max (sub binary64 high low) one64 one-number))
 
 -- 255.0 and 65535.0
-module _ (full : Float) (fp : T (positive full)) (fn : Number full) (top-zero : (x : Float) → toUnsigned 64 (held zero64 full (mul binary64 (div binary64 x (inf false)) full)) ≡ 0) where
+module _ (full : Float) (fp : T (positive full)) (fn : Number full) (top-zero : (x : Float) → toUnsigned 64 (clampFloat zero64 full (mul binary64 (div binary64 x (inf false)) full)) ≡ 0) where
   value-top : (low high v r : Float) → r ≡ inf false → valueOf full low high r v ≡ 0
-  unfolding valueOf normalised
-  value-top low high v r e = ap (λ (q : Float). toUnsigned 64 (held zero64 full (mul binary64 (div binary64 (sub binary64 (held low high v) low) q) full))) e ∙ top-zero (sub binary64 (held low high v) low)
+  unfolding valueOf normalized
+  value-top low high v r e = ap (λ (q : Float). toUnsigned 64 (clampFloat zero64 full (mul binary64 (div binary64 (sub binary64 (clampFloat low high v) low) q) full))) e ∙ top-zero (sub binary64 (clampFloat low high v) low)
 
   value-finite : (low high v w r : Float) → T (finite low) → T (finite high) → T (positive r) → T (le v w) → valueOf full low high r v ≤ valueOf full low high r w
-  unfolding valueOf normalised
+  unfolding valueOf normalized
   value-finite low high v w r p q k h =
       toUnsigned-le 64 _ _ (clamped-le zero64 full _ _ zero-number fn (mul-le binary64 full fp _ _ (div-le binary64 r k _ _ (sub-le binary64 low p _ _
-        (smaller-le high (larger v low) (larger w low) (number-of-finite high q) (larger-le low v w (number-of-finite low p) h))))))
+        (minFloat-le high (maxFloat v low) (maxFloat w low) (number-of-finite high q) (maxFloat-le low v w (number-of-finite low p) h))))))
 
   pub finite-ends : (low high v w : Float) → T (finite low) → T (finite high) → T (le v w) → valueOf full low high (range low high) v ≤ valueOf full low high (range low high) w
   finite-ends low high v w p q h = elim (range-is low high) [
@@ -58,14 +58,14 @@ module _ (full : Float) (fp : T (positive full)) (fn : Number full) (top-zero : 
     | inr e ↦ le-of-eq (value-top low high v (range low high) e ∙ sym (value-top low high w (range low high) e))
   ]
 
-top8 : (x : Float) → toUnsigned 64 (held zero64 full8 (mul binary64 (div binary64 x (inf false)) full8)) ≡ 0
+top8 : (x : Float) → toUnsigned 64 (clampFloat zero64 full8 (mul binary64 (div binary64 x (inf false)) full8)) ≡ 0
 unfolding toUnsigned mul div lt ofBits
 top8 nan = refl
 top8 (inf s) = refl
 top8 (fin true m e) = refl
 top8 (fin false m e) = refl
 
-top16 : (x : Float) → toUnsigned 64 (held zero64 full16 (mul binary64 (div binary64 x (inf false)) full16)) ≡ 0
+top16 : (x : Float) → toUnsigned 64 (clampFloat zero64 full16 (mul binary64 (div binary64 x (inf false)) full16)) ≡ 0
 unfolding toUnsigned mul div lt ofBits
 top16 nan = refl
 top16 (inf s) = refl
@@ -77,37 +77,37 @@ top16 (fin false m e) = refl
 abbrev pub Finite : Float → Type 0
 Finite v = T (finite v)
 
-larger-finite : (v low : Float) → Finite v → Finite low → Finite (larger v low)
-larger-finite v low p q = pick (lt low v)
+maxFloat-finite : (v low : Float) → Finite v → Finite low → Finite (maxFloat v low)
+maxFloat-finite v low p q = pick (lt low v)
   where
     pick : (t : Bool) → Finite (cond t v low)
     pick true = p
     pick false = q
 
 -- a finite number against an end beyond it
-under-nan : (x : Float) → smaller x nan ≡ nan
+under-nan : (x : Float) → minFloat x nan ≡ nan
 unfolding lt
 under-nan nan = refl
 under-nan (inf s) = refl
 under-nan (fin s m e) = refl
 
-under-bottom : (x : Float) → Finite x → smaller x (inf true) ≡ inf true
+under-bottom : (x : Float) → Finite x → minFloat x (inf true) ≡ inf true
 unfolding lt
 under-bottom nan h = absurd h
 under-bottom (inf s) h = absurd h
 under-bottom (fin s m e) h = refl
 
-over-nan : (v : Float) → larger v nan ≡ nan
+over-nan : (v : Float) → maxFloat v nan ≡ nan
 unfolding lt
 over-nan v = refl
 
-over-top : (v : Float) → Finite v → larger v (inf false) ≡ inf false
+over-top : (v : Float) → Finite v → maxFloat v (inf false) ≡ inf false
 unfolding lt
 over-top nan h = absurd h
 over-top (inf s) h = absurd h
 over-top (fin s m e) h = refl
 
-over-bottom : (v : Float) → Finite v → larger v (inf true) ≡ v
+over-bottom : (v : Float) → Finite v → maxFloat v (inf true) ≡ v
 unfolding lt
 over-bottom nan h = absurd h
 over-bottom (inf s) h = absurd h
@@ -124,8 +124,8 @@ unfolding sub add neg
 from-infinite = refl
 
 -- every finite pixel is infinitely far above minus infinity
-far : (high v : Float) → sub binary64 high (inf true) ≡ inf false → Finite v → sub binary64 (held (inf true) high v) (inf true) ≡ inf false
-far high v e a = ap (λ (x : Float). sub binary64 (smaller x high) (inf true)) (over-bottom v a) ∙ pick (lt v high)
+far : (high v : Float) → sub binary64 high (inf true) ≡ inf false → Finite v → sub binary64 (clampFloat (inf true) high v) (inf true) ≡ inf false
+far high v e a = ap (λ (x : Float). sub binary64 (minFloat x high) (inf true)) (over-bottom v a) ∙ pick (lt v high)
   where
     pick : (t : Bool) → sub binary64 (cond t v high) (inf true) ≡ inf false
     pick true = from-finite v a
@@ -138,34 +138,34 @@ from-top (inf s) h = absurd h
 from-top (fin s m e) h = refl
 
 -- equal held values have equal grey values
-by-held : (full low high r v w : Float) → held low high v ≡ held low high w → valueOf full low high r v ≡ valueOf full low high r w
-unfolding valueOf normalised
-by-held full low high r v w e = ap (λ (c : Float). toUnsigned 64 (held zero64 full (mul binary64 (div binary64 (sub binary64 c low) r) full))) e
+by-clamp : (full low high r v w : Float) → clampFloat low high v ≡ clampFloat low high w → valueOf full low high r v ≡ valueOf full low high r w
+unfolding valueOf normalized
+by-clamp full low high r v w e = ap (λ (c : Float). toUnsigned 64 (clampFloat zero64 full (mul binary64 (div binary64 (sub binary64 c low) r) full))) e
 
-by-distance : (full low high r v w : Float) → sub binary64 (held low high v) low ≡ sub binary64 (held low high w) low → valueOf full low high r v ≡ valueOf full low high r w
-unfolding valueOf normalised
-by-distance full low high r v w e = ap (λ (c : Float). toUnsigned 64 (held zero64 full (mul binary64 (div binary64 c r) full))) e
+by-distance : (full low high r v w : Float) → sub binary64 (clampFloat low high v) low ≡ sub binary64 (clampFloat low high w) low → valueOf full low high r v ≡ valueOf full low high r w
+unfolding valueOf normalized
+by-distance full low high r v w e = ap (λ (c : Float). toUnsigned 64 (clampFloat zero64 full (mul binary64 (div binary64 c r) full))) e
 
 -- ---- the order, within one band
 
-module _ (full : Float) (fp : T (positive full)) (fn : Number full) (top-zero : (x : Float) → toUnsigned 64 (held zero64 full (mul binary64 (div binary64 x (inf false)) full)) ≡ 0)
+module _ (full : Float) (fp : T (positive full)) (fn : Number full) (top-zero : (x : Float) → toUnsigned 64 (clampFloat zero64 full (mul binary64 (div binary64 x (inf false)) full)) ≡ 0)
     (v w : Float) (a : Finite v) (b : Finite w) (h : T (le v w)) where
   any-ends : (low high : Float) → valueOf full low high (range low high) v ≤ valueOf full low high (range low high) w
-  any-ends nan high = le-of-eq (by-held full nan high (range nan high) v w (ap (λ (x : Float). smaller x high) (over-nan v ∙ sym (over-nan w))))
-  any-ends (inf false) high = le-of-eq (by-held full (inf false) high (range (inf false) high) v w (ap (λ (x : Float). smaller x high) (over-top v a ∙ sym (over-top w b))))
-  any-ends (inf true) nan = le-of-eq (by-held full (inf true) nan (range (inf true) nan) v w (under-nan (larger v (inf true)) ∙ sym (under-nan (larger w (inf true)))))
+  any-ends nan high = le-of-eq (by-clamp full nan high (range nan high) v w (ap (λ (x : Float). minFloat x high) (over-nan v ∙ sym (over-nan w))))
+  any-ends (inf false) high = le-of-eq (by-clamp full (inf false) high (range (inf false) high) v w (ap (λ (x : Float). minFloat x high) (over-top v a ∙ sym (over-top w b))))
+  any-ends (inf true) nan = le-of-eq (by-clamp full (inf true) nan (range (inf true) nan) v w (under-nan (maxFloat v (inf true)) ∙ sym (under-nan (maxFloat w (inf true)))))
   any-ends (inf true) (inf true) =
-      le-of-eq (by-held full (inf true) (inf true) (range (inf true) (inf true)) v w
-        (ap (λ (x : Float). smaller x (inf true)) (over-bottom v a) ∙ under-bottom v a ∙ sym (ap (λ (x : Float). smaller x (inf true)) (over-bottom w b) ∙ under-bottom w b)))
+      le-of-eq (by-clamp full (inf true) (inf true) (range (inf true) (inf true)) v w
+        (ap (λ (x : Float). minFloat x (inf true)) (over-bottom v a) ∙ under-bottom v a ∙ sym (ap (λ (x : Float). minFloat x (inf true)) (over-bottom w b) ∙ under-bottom w b)))
   any-ends (inf true) (inf false) =
       le-of-eq (by-distance full (inf true) (inf false) (range (inf true) (inf false)) v w (far (inf false) v from-infinite a ∙ sym (far (inf false) w from-infinite b)))
   any-ends (inf true) (fin s m e) =
       le-of-eq (by-distance full (inf true) (fin s m e) (range (inf true) (fin s m e)) v w
         (far (fin s m e) v (from-finite (fin s m e) tt) a ∙ sym (far (fin s m e) w (from-finite (fin s m e) tt) b)))
-  any-ends (fin s m e) nan = le-of-eq (by-held full (fin s m e) nan (range (fin s m e) nan) v w (under-nan (larger v (fin s m e)) ∙ sym (under-nan (larger w (fin s m e)))))
+  any-ends (fin s m e) nan = le-of-eq (by-clamp full (fin s m e) nan (range (fin s m e) nan) v w (under-nan (maxFloat v (fin s m e)) ∙ sym (under-nan (maxFloat w (fin s m e)))))
   any-ends (fin s m e) (inf true) =
-      le-of-eq (by-held full (fin s m e) (inf true) (range (fin s m e) (inf true)) v w
-        (under-bottom (larger v (fin s m e)) (larger-finite v (fin s m e) a tt) ∙ sym (under-bottom (larger w (fin s m e)) (larger-finite w (fin s m e) b tt))))
+      le-of-eq (by-clamp full (fin s m e) (inf true) (range (fin s m e) (inf true)) v w
+        (under-bottom (maxFloat v (fin s m e)) (maxFloat-finite v (fin s m e) a tt) ∙ sym (under-bottom (maxFloat w (fin s m e)) (maxFloat-finite w (fin s m e) b tt))))
   any-ends (fin s m e) (inf false) =
       le-of-eq (value-top full fp fn top-zero (fin s m e) (inf false) v (range (fin s m e) (inf false)) (from-top (fin s m e) tt)
         ∙ sym (value-top full fp fn top-zero (fin s m e) (inf false) w (range (fin s m e) (inf false)) (from-top (fin s m e) tt)))
@@ -173,11 +173,11 @@ module _ (full : Float) (fp : T (positive full)) (fn : Number full) (top-zero : 
 
 -- of two finite pixels under one window, the brighter has no smaller value: at 255 and at 65535
 pub value8-order : (c : Clip) (v w : Float) → Finite v → Finite w → T (le v w) →
-    valueOf full8 (c .low) (c .high) (larger (sub binary64 (c .high) (c .low)) one64) v ≤ valueOf full8 (c .low) (c .high) (larger (sub binary64 (c .high) (c .low)) one64) w
+    valueOf full8 (c .low) (c .high) (maxFloat (sub binary64 (c .high) (c .low)) one64) v ≤ valueOf full8 (c .low) (c .high) (maxFloat (sub binary64 (c .high) (c .low)) one64) w
 unfolding ofBits
 value8-order c v w a b h = any-ends full8 tt tt top8 v w a b h (c .low) (c .high)
 
 pub value16-order : (c : Clip) (v w : Float) → Finite v → Finite w → T (le v w) →
-    valueOf full16 (c .low) (c .high) (larger (sub binary64 (c .high) (c .low)) one64) v ≤ valueOf full16 (c .low) (c .high) (larger (sub binary64 (c .high) (c .low)) one64) w
+    valueOf full16 (c .low) (c .high) (maxFloat (sub binary64 (c .high) (c .low)) one64) v ≤ valueOf full16 (c .low) (c .high) (maxFloat (sub binary64 (c .high) (c .low)) one64) w
 unfolding ofBits
 value16-order c v w a b h = any-ends full16 tt tt top16 v w a b h (c .low) (c .high)

@@ -6,28 +6,28 @@ use lib.Ieee.{Float}
 use Rattle.types.specs.declared.AutoscaleStrategy.{AutoscaleStrategy}
 use Rattle.types.specs.declared.SyntheticRgbMode.{SyntheticRgbMode}
 use Rattle.spec.specs.Altered.{Altered}
-use Rattle.spec.specs.Statistics.{statisticsCall}
-use Rattle.spec.specs.Window.{windowCall}
-use Rattle.spec.specs.Grey.{grey8, grey16}
-use Rattle.spec.specs.Picture.{Lent, pictureOf}
+use Rattle.spec.specs.Statistics.{computeHistogramStats}
+use Rattle.spec.specs.Window.{autoscaleWindow}
+use Rattle.spec.specs.Grey.{autoscaleDbImageToU8, autoscaleDbImageToU16}
+use Rattle.spec.specs.Picture.{Lent, syntheticRgbPicture}
 
 -- "Whatever is put there, in any strategy, every call given decibels and marks gives the same reply, the same statistics, window, greys and colours."
 -- An answer is the refusal with its number, or all that comes with being done: equal answers are equal results, done or refused.
 pub record Alteration : Type 0 where
   pub statistics :
     (rows cols : ℕ) (marks : List ℕ) (db db′ : List Float) → Altered marks db db′ →
-    statisticsCall rows cols marks db ≡ statisticsCall rows cols marks db′
+    computeHistogramStats rows cols marks db ≡ computeHistogramStats rows cols marks db′
   pub window :
     (strategy : AutoscaleStrategy) (rows cols : ℕ) (marks : List ℕ) (db db′ : List Float) → Altered marks db db′ →
-    windowCall strategy rows cols marks db ≡ windowCall strategy rows cols marks db′
+    autoscaleWindow strategy rows cols marks db ≡ autoscaleWindow strategy rows cols marks db′
   pub at-8-bits :
     (strategy : AutoscaleStrategy) (rows cols : ℕ) (marks : List ℕ) (db db′ : List Float) (out work : ℕ) → Altered marks db db′ →
-    grey8 strategy rows cols marks db out work ≡ grey8 strategy rows cols marks db′ out work
+    autoscaleDbImageToU8 strategy rows cols marks db out work ≡ autoscaleDbImageToU8 strategy rows cols marks db′ out work
   pub at-16-bits :
     (strategy : AutoscaleStrategy) (rows cols : ℕ) (marks : List ℕ) (db db′ : List Float) (out work : ℕ) → Altered marks db db′ →
-    grey16 strategy rows cols marks db out work ≡ grey16 strategy rows cols marks db′ out work
+    autoscaleDbImageToU16 strategy rows cols marks db out work ≡ autoscaleDbImageToU16 strategy rows cols marks db′ out work
   -- "in one band or both": a band is an alteration of itself
   pub picture :
     (strategy : AutoscaleStrategy) (mode : SyntheticRgbMode) (rows cols : ℕ) (marks1 : List ℕ) (db1 db1′ : List Float) (marks2 : List ℕ) (db2 db2′ : List Float) (lent : Lent) →
     Altered marks1 db1 db1′ → Altered marks2 db2 db2′ →
-    pictureOf strategy mode rows cols marks1 db1 marks2 db2 lent ≡ pictureOf strategy mode rows cols marks1 db1′ marks2 db2′ lent
+    syntheticRgbPicture strategy mode rows cols marks1 db1 marks2 db2 lent ≡ syntheticRgbPicture strategy mode rows cols marks1 db1′ marks2 db2′ lent

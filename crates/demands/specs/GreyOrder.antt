@@ -10,8 +10,8 @@ use Rattle.types.specs.declared.AutoscaleStrategy.{AutoscaleStrategy}
 use Rattle.types.specs.declared.AutoscaleStrategy.the-variants.{Clahe}
 use Rattle.types.specs.declared.SyntheticRgbMode.{SyntheticRgbMode}
 use Rattle.spec.specs.Answer.{done}
-use Rattle.spec.specs.Grey.{grey8, grey16}
-use Rattle.spec.specs.Picture.{Picture, Lent, pictureOf}
+use Rattle.spec.specs.Grey.{autoscaleDbImageToU8, autoscaleDbImageToU16}
+use Rattle.spec.specs.Picture.{Picture, Lent, syntheticRgbPicture}
 
 -- "outside Clahe"
 abbrev pub OutsideClahe : AutoscaleStrategy → Type 0
@@ -26,11 +26,11 @@ Ranked marks db greys =
 pub record GreyOrder : Type 0 where
   pub at-8-bits :
     (strategy : AutoscaleStrategy) → OutsideClahe strategy → (rows cols : ℕ) (marks : List ℕ) (db : List Float) (out work : ℕ) (greys : List ℕ) →
-    grey8 strategy rows cols marks db out work ≡ done greys → Ranked marks db greys
+    autoscaleDbImageToU8 strategy rows cols marks db out work ≡ done greys → Ranked marks db greys
   pub at-16-bits :
     (strategy : AutoscaleStrategy) → OutsideClahe strategy → (rows cols : ℕ) (marks : List ℕ) (db : List Float) (out work : ℕ) (greys : List ℕ) →
-    grey16 strategy rows cols marks db out work ≡ done greys → Ranked marks db greys
+    autoscaleDbImageToU16 strategy rows cols marks db out work ≡ done greys → Ranked marks db greys
   pub picture :
     (strategy : AutoscaleStrategy) → OutsideClahe strategy → (mode : SyntheticRgbMode) (rows cols : ℕ) (marks1 : List ℕ) (db1 : List Float) (marks2 : List ℕ) (db2 : List Float)
     (lent : Lent) (p : Picture) →
-    pictureOf strategy mode rows cols marks1 db1 marks2 db2 lent ≡ done p → Ranked marks1 db1 (p .grey1) × Ranked marks2 db2 (p .grey2)
+    syntheticRgbPicture strategy mode rows cols marks1 db1 marks2 db2 lent ≡ done p → Ranked marks1 db1 (p .grey1) × Ranked marks2 db2 (p .grey2)

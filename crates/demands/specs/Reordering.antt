@@ -10,7 +10,7 @@ use Rattle.types.specs.declared.AutoscaleStrategy.the-variants.{Adaptive, Clahe
 use Rattle.types.specs.declared.SyntheticRgbMode.{SyntheticRgbMode}
 use Rattle.spec.specs.Answer.{Answer, refused, done}
 use Rattle.spec.specs.Colour.{bytesOf}
-use Rattle.spec.specs.Picture.{Picture, Lent, pictureOf}
+use Rattle.spec.specs.Picture.{Picture, Lent, syntheticRgbPicture}
 use Rattle.spec.specs.Places.{Order, moved, movedPicture}
 
 -- "For every strategy but Adaptive and Clahe"
@@ -39,11 +39,11 @@ pub record Reordering : Type 0 where
   pub picture :
     (strategy : AutoscaleStrategy) → Reorders strategy → (mode : SyntheticRgbMode) (rows cols : ℕ) (marks1 : List ℕ) (db1 : List Float) (marks2 : List ℕ) (db2 : List Float) (lent : Lent)
     (size : ℕ) → length marks1 ≡ size → length db1 ≡ size → length marks2 ≡ size → length db2 ≡ size → AreF64 db1 → AreF64 db2 → (ps : List ℕ) → Order ps size →
-    MovedBy ps (pictureOf strategy mode rows cols marks1 db1 marks2 db2 lent)
-      (pictureOf strategy mode rows cols (moved 0 ps marks1) (moved nan ps db1) (moved 0 ps marks2) (moved nan ps db2) lent)
+    MovedBy ps (syntheticRgbPicture strategy mode rows cols marks1 db1 marks2 db2 lent)
+      (syntheticRgbPicture strategy mode rows cols (moved 0 ps marks1) (moved nan ps db1) (moved 0 ps marks2) (moved nan ps db2) lent)
   -- the same as one equation
   pub equation :
     (strategy : AutoscaleStrategy) → Reorders strategy → (mode : SyntheticRgbMode) (rows cols : ℕ) (marks1 : List ℕ) (db1 : List Float) (marks2 : List ℕ) (db2 : List Float) (lent : Lent)
     (size : ℕ) → length marks1 ≡ size → length db1 ≡ size → length marks2 ≡ size → length db2 ≡ size → AreF64 db1 → AreF64 db2 → (ps : List ℕ) → Order ps size →
-    pictureOf strategy mode rows cols (moved 0 ps marks1) (moved nan ps db1) (moved 0 ps marks2) (moved nan ps db2) lent
-      ≡ movedPicture ps (pictureOf strategy mode rows cols marks1 db1 marks2 db2 lent)
+    syntheticRgbPicture strategy mode rows cols (moved 0 ps marks1) (moved nan ps db1) (moved 0 ps marks2) (moved nan ps db2) lent
+      ≡ movedPicture ps (syntheticRgbPicture strategy mode rows cols marks1 db1 marks2 db2 lent)

@@ -12,11 +12,11 @@ use Rattle.types.specs.declared.HistogramStats.{HistogramStats}
 use Rattle.spec.specs.Answer.{done, number}
 use Rattle.spec.specs.Lists.{countOf, sumOf}
 use Rattle.spec.specs.Bins.{binOf, histogram}
-use Rattle.spec.specs.Statistics.{statisticsCall}
-use Rattle.spec.specs.Window.{windowOf, pictureWindow, windowCall}
-use Rattle.spec.specs.Grey.{grey8}
-use Rattle.spec.specs.Colour.{composition}
-use Rattle.spec.specs.Picture.{Picture, Lent, pictureOf}
+use Rattle.spec.specs.Statistics.{computeHistogramStats}
+use Rattle.spec.specs.Window.{windowOf, pictureWindow, autoscaleWindow}
+use Rattle.spec.specs.Grey.{autoscaleDbImageToU8}
+use Rattle.spec.specs.Colour.{createSyntheticRgbByModeAndStrategy}
+use Rattle.spec.specs.Picture.{Picture, Lent, syntheticRgbPicture}
 
 -- the statistics with another mean and deviation
 abbrev pub withMean : Float → Float → HistogramStats → HistogramStats
@@ -29,16 +29,16 @@ withMean m d s =
 pub record Sides : Type 0 where
   -- "An invented valid count: it equals the number of 1 marks."
   pub count :
-    (rows cols : ℕ) (marks : List ℕ) (db : List Float) (s : HistogramStats) → statisticsCall rows cols marks db ≡ done s → s .«valid_count» ≡ countOf 1 marks
+    (rows cols : ℕ) (marks : List ℕ) (db : List Float) (s : HistogramStats) → computeHistogramStats rows cols marks db ≡ done s → s .«valid_count» ≡ countOf 1 marks
   -- "The bins sum to the valid count."
   pub bins : (least inv : Float) (vs : List Float) → sumOf (histogram (map (binOf least inv) vs)) ≡ length vs
   -- "A window is blank exactly if no refusal applies and no mark is 1." A blank window has no floats.
   pub blank :
     (strategy : AutoscaleStrategy) (rows cols : ℕ) (marks : List ℕ) (db : List Float) →
-    number (windowCall strategy rows cols marks db) ≡ 0 → countOf 1 marks ≡ 0 → windowCall strategy rows cols marks db ≡ done []
+    number (autoscaleWindow strategy rows cols marks db) ≡ 0 → countOf 1 marks ≡ 0 → autoscaleWindow strategy rows cols marks db ≡ done []
   pub only-blank :
     (strategy : AutoscaleStrategy) (rows cols : ℕ) (marks : List ℕ) (db : List Float) →
-    windowCall strategy rows cols marks db ≡ done [] → countOf 1 marks ≡ 0
+    autoscaleWindow strategy rows cols marks db ≡ done [] → countOf 1 marks ≡ 0
   -- only Adaptive reads the mean and the deviation
   pub mean-unread :
     (strategy : AutoscaleStrategy) → (strategy ≡ Adaptive → ⊥) → (s : HistogramStats) (m d : Float) → windowOf strategy (withMean m d s) ≡ windowOf strategy s
@@ -48,11 +48,11 @@ pub record Sides : Type 0 where
   -- outside Tamed the greys of a picture are those of the grey call at 8 bits
   pub picture-greys :
     (strategy : AutoscaleStrategy) → (strategy ≡ Tamed → ⊥) → (mode : SyntheticRgbMode) (rows cols : ℕ) (marks1 : List ℕ) (db1 : List Float) (marks2 : List ℕ) (db2 : List Float)
-    (lent : Lent) (p : Picture) → pictureOf strategy mode rows cols marks1 db1 marks2 db2 lent ≡ done p →
-    (grey8 strategy rows cols marks1 db1 (lent .grey1) (lent .work) ≡ done (p .grey1)) × (grey8 strategy rows cols marks2 db2 (lent .grey2) (lent .work) ≡ done (p .grey2))
+    (lent : Lent) (p : Picture) → syntheticRgbPicture strategy mode rows cols marks1 db1 marks2 db2 lent ≡ done p →
+    (autoscaleDbImageToU8 strategy rows cols marks1 db1 (lent .grey1) (lent .work) ≡ done (p .grey1)) × (autoscaleDbImageToU8 strategy rows cols marks2 db2 (lent .grey2) (lent .work) ≡ done (p .grey2))
   -- "all modes agree"
   pub picture-modes :
     (strategy : AutoscaleStrategy) (mode mode′ : SyntheticRgbMode) (rows cols : ℕ) (marks1 : List ℕ) (db1 : List Float) (marks2 : List ℕ) (db2 : List Float) (lent : Lent) →
-    pictureOf strategy mode rows cols marks1 db1 marks2 db2 lent ≡ pictureOf strategy mode′ rows cols marks1 db1 marks2 db2 lent
+    syntheticRgbPicture strategy mode rows cols marks1 db1 marks2 db2 lent ≡ syntheticRgbPicture strategy mode′ rows cols marks1 db1 marks2 db2 lent
   pub composition-modes :
-    (strategy : AutoscaleStrategy) (mode mode′ : SyntheticRgbMode) (band1 band2 : List ℕ) (out : ℕ) → composition mode strategy band1 band2 out ≡ composition mode′ strategy band1 band2 out
+    (strategy : AutoscaleStrategy) (mode mode′ : SyntheticRgbMode) (band1 band2 : List ℕ) (out : ℕ) → createSyntheticRgbByModeAndStrategy mode strategy band1 band2 out ≡ createSyntheticRgbByModeAndStrategy mode′ strategy band1 band2 out

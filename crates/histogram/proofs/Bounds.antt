@@ -24,11 +24,11 @@ use Rattle.spec.specs.Floats.{zero64, half64, one64, ofCount}
 use Rattle.spec.specs.Bins.{bins64, binOf, histogram}
 use Rattle.spec.specs.Lists.{sumOf, any}
 use Rattle.spec.specs.Moments.{noMoments, momentsFrom}
-use Rattle.spec.specs.Percentile.{target, seek, valueAt, percentile}
-use Rattle.spec.specs.Root.{root}
+use Rattle.spec.specs.Percentile.{targetOf, findBin, valueAt, estimatePercentile}
+use Rattle.spec.specs.Root.{sqrtFloat}
 use Rattle.spec.specs.Statistics.{deviationOf, gathered, flatPercentile, spreadPercentile, flat64, summary, summaryOf, statisticsOf}
 use Rattle.spec.specs.Pixels.{off, on, pixel, pixels, validOf}
-use Rattle.spec.specs.Refusals.{badPixel, badDecibel}
+use Rattle.spec.specs.Refusals.{decibelRefused, decibelsRefused}
 use Rattle.numeric.proofs.Facts.{thousand, minus-thousand}
 use Rattle.numeric.specs.Correct.{NearestRoot}
 use Rattle.numeric.proofs.Correct.{root-nearest}
@@ -110,14 +110,14 @@ root-most x r b c =
       under = le-trans (le-of-eq (value-less r (c .s * 2 ^ c .h) (2 ^ 644) (c .value))) zero-le;
     }
 
-root-within : (x : Float) → T (fits binary64 x) → Within 4000000 x → T (le zero64 x) → Within 2000 (root x)
-unfolding root ofBits
-root-within nan f w o = absurd (w .is-finite)
-root-within (inf s) f w o = absurd (w .is-finite)
-root-within (fin true zero e) f w o = record { is-finite = tt; above = zero-le; under = le-trans (le-of-eq (zero-mul (up e))) zero-le }
-root-within (fin false zero e) f w o = record { is-finite = tt; above = le-trans (le-of-eq (zero-mul (up e))) zero-le; under = zero-le }
-root-within (fin true (suc m) e) f w o = let k = nothing-less (fin true (suc m) e) o in absurd (omega (arith, k, up-pos e, suc-mul m (up e)))
-root-within (fin false (suc m) e) f w o = root-most (fin false (suc m) e) (root (fin false (suc m) e)) (w .above) (root-nearest (fin false (suc m) e) f (lt→ltb 0 (suc m) (omega arith)))
+sqrtFloat-within : (x : Float) → T (fits binary64 x) → Within 4000000 x → T (le zero64 x) → Within 2000 (sqrtFloat x)
+unfolding sqrtFloat ofBits
+sqrtFloat-within nan f w o = absurd (w .is-finite)
+sqrtFloat-within (inf s) f w o = absurd (w .is-finite)
+sqrtFloat-within (fin true zero e) f w o = record { is-finite = tt; above = zero-le; under = le-trans (le-of-eq (zero-mul (up e))) zero-le }
+sqrtFloat-within (fin false zero e) f w o = record { is-finite = tt; above = le-trans (le-of-eq (zero-mul (up e))) zero-le; under = zero-le }
+sqrtFloat-within (fin true (suc m) e) f w o = let k = nothing-less (fin true (suc m) e) o in absurd (omega (arith, k, up-pos e, suc-mul m (up e)))
+sqrtFloat-within (fin false (suc m) e) f w o = root-most (fin false (suc m) e) (sqrtFloat (fin false (suc m) e)) (w .above) (root-nearest (fin false (suc m) e) f (lt→ltb 0 (suc m) (omega arith)))
 
 pub deviation-within : (s : Moments) → s .count ≤ 16777216 → Sound s → Within 2000 (deviationOf s)
 unfolding deviationOf
@@ -126,17 +126,17 @@ deviation-within s l o = go (ltb 1 (s .count)) (ltb-true 1 (s .count))
     q : Float
     q = div binary64 (s .m2) (ofCount (s .count))
 
-    more : 1 < s .count → Within 2000 (root q)
+    more : 1 < s .count → Within 2000 (sqrtFloat q)
     more h =
         let n : 0 < s .count = omega arith in
         let b : s .count ≤ 2 ^ 53 = omega arith in
         let w = shared-within (s .count) b n 4000000 (lit< tt) (s .m2) (o .m2-within) in
         let u = units (s .m2) (o .m2-within .is-finite) (o .m2-fit) in
-        root-within q (div-fits binary64 (s .m2) (ofCount (s .count))) w
+        sqrtFloat-within q (div-fits binary64 (s .m2) (ofCount (s .count))) w
         (div-over (s .count) b n (s .m2) zero64 u zero-units
         (omega (arith, zero-more, zero-fewer, ap (λ (z : ℕ). z * s .count) zero-more, ap (λ (z : ℕ). z * s .count) zero-fewer, zero-mul (s .count), le-units zero64 (s .m2) zero-units u (o .m2-over))))
 
-    go : (t : Bool) → (t ≡ true → 1 < s .count) → Within 2000 (cond t (root q) zero64)
+    go : (t : Bool) → (t ≡ true → 1 < s .count) → Within 2000 (cond t (sqrtFloat q) zero64)
     go true h = more (h refl)
     go false h = zero-small
 
@@ -245,12 +245,12 @@ module _ (s : Moments) (o : Sound s) where
   -- any percentile of the bins
   module _ (vs : List Float) (c : s .count ≡ length vs) (l : length vs ≤ 16777216) (h : 0 < length vs) (p : Float) where
     found : BinRank
-    found = seek (target p (s .count)) 0 0 (histogram (map (binOf (s .«min_db») (div binary64 one64 span)) vs))
+    found = findBin (targetOf p (s .count)) 0 0 (histogram (map (binOf (s .«min_db») (div binary64 one64 span)) vs))
 
-    first : First (target p (length vs)) (histogram (map (binOf (s .«min_db») (div binary64 one64 span)) vs)) found
+    first : First (targetOf p (length vs)) (histogram (map (binOf (s .«min_db») (div binary64 one64 span)) vs)) found
     unfolding found
     first =
-        subst (λ (n : ℕ). First (target p (length vs)) (histogram (map (binOf (s .«min_db») (div binary64 one64 span)) vs)) (seek (target p n) 0 0 (histogram (map (binOf (s .«min_db») (div binary64 one64 span)) vs)))) (sym c)
+        subst (λ (n : ℕ). First (targetOf p (length vs)) (histogram (map (binOf (s .«min_db») (div binary64 one64 span)) vs)) (findBin (targetOf p n) 0 0 (histogram (map (binOf (s .«min_db») (div binary64 one64 span)) vs)))) (sym c)
         (target-first p (s .«min_db») (div binary64 one64 span) vs h)
 
     found-bin : found .bin ≤ 4095
@@ -261,12 +261,12 @@ module _ (s : Moments) (o : Sound s) where
         omega (arith, first .size-is, at-most-sum (histogram (map (binOf (s .«min_db») (div binary64 one64 span)) vs)) (found .bin), bins-sum (s .«min_db») (div binary64 one64 span) vs)
 
     pub spread-within : Within 5096 (spreadPercentile s span vs p .value)
-    unfolding spreadPercentile percentile found
+    unfolding spreadPercentile estimatePercentile found
     spread-within =
         value-within (s .«min_db») (div binary64 span bins64) (o .least-fit) (o .least-within) width-within width-over found found-bin (first .rank-below) found-size
 
     pub spread-least : T (le (s .«min_db») (spreadPercentile s span vs p .value))
-    unfolding spreadPercentile percentile found
+    unfolding spreadPercentile estimatePercentile found
     spread-least =
         value-least (s .«min_db») (div binary64 span bins64) (o .least-fit) (o .least-within) width-within width-over found found-bin (first .rank-below) found-size
 
@@ -370,17 +370,17 @@ both true true e = (tt, tt)
 both true false e = absurd (let z : _≡_ {A = ℕ} 0 1 = cc in omega arith)
 both false b e = absurd (let z : _≡_ {A = ℕ} 0 1 = cc in omega arith)
 
-good-decibel : (v : Float) → T (fits binary64 v) → badPixel (on v) ≡ false → Decibel v
-unfolding badPixel
+good-decibel : (v : Float) → T (fits binary64 v) → decibelRefused (on v) ≡ false → Decibel v
+unfolding decibelRefused
 good-decibel v f e = let p = both (le minus-thousand v) (le v thousand) e in record { fit = f; low = p .0; high = p .1 }
 
-pub valid-decibels : (m : List ℕ) (d : List Float) → Each (λ v. T (fits binary64 v)) d → badDecibel (pixels m d) ≡ false → Each Decibel (validOf (pixels m d))
-unfolding pixels pixel zipWith validOf badDecibel any
+pub valid-decibels : (m : List ℕ) (d : List Float) → Each (λ v. T (fits binary64 v)) d → decibelsRefused (pixels m d) ≡ false → Each Decibel (validOf (pixels m d))
+unfolding pixels pixel zipWith validOf decibelsRefused any
 valid-decibels [] d f e = tt
 valid-decibels (k ∷ m) [] f e = tt
-valid-decibels (zero ∷ m) (v ∷ d) f e = valid-decibels m d (f .1) (or-false (badPixel off) (any badPixel (pixels m d)) e .1)
+valid-decibels (zero ∷ m) (v ∷ d) f e = valid-decibels m d (f .1) (or-false (decibelRefused off) (any decibelRefused (pixels m d)) e .1)
 valid-decibels (suc k ∷ m) (v ∷ d) f e =
-    let p = or-false (badPixel (on v)) (any badPixel (pixels m d)) e in
+    let p = or-false (decibelRefused (on v)) (any decibelRefused (pixels m d)) e in
     (good-decibel v (f .0) (p .0), valid-decibels m d (f .1) (p .1))
 
 valid-few : (m : List ℕ) (d : List Float) → length (validOf (pixels m d)) ≤ length d
@@ -390,7 +390,7 @@ valid-few (k ∷ m) [] = zero-le
 valid-few (zero ∷ m) (v ∷ d) = omega (arith, valid-few m d)
 valid-few (suc k ∷ m) (v ∷ d) = omega (arith, valid-few m d)
 
-module _ (m : List ℕ) (d : List Float) (l : length d ≤ 16777216) (f : Each (λ v. T (fits binary64 v)) d) (e : badDecibel (pixels m d) ≡ false) where
+module _ (m : List ℕ) (d : List Float) (l : length d ≤ 16777216) (f : Each (λ v. T (fits binary64 v)) d) (e : decibelsRefused (pixels m d) ≡ false) where
   pub statistics-bounded : Bounded (statisticsOf (pixels m d))
   unfolding statisticsOf
   statistics-bounded = stats-bounded (validOf (pixels m d)) (omega (arith, valid-few m d)) (valid-decibels m d f e)

@@ -15,14 +15,14 @@ use Rattle.types.specs.declared.Percentile.{Percentile}
 use Rattle.spec.specs.Bins.{binOf, histogram}
 use Rattle.spec.specs.Lists.{countOf, sumOf}
 use Rattle.spec.specs.Moments.{noMoments, withValue, momentsFrom}
-use Rattle.spec.specs.Percentile.{target, seek}
+use Rattle.spec.specs.Percentile.{targetOf, findBin}
 use Rattle.spec.specs.Pixels.{Pixel, pixels, validOf}
-use Rattle.spec.specs.Refusals.{badMark}
+use Rattle.spec.specs.Refusals.{marksRefused}
 use Rattle.spec.specs.Statistics.{gathered, flatPercentile, spreadPercentile, flat64, summary, summaryOf, statisticsOf}
 use Rattle.lists.proofs.Counts.{counts-sum, counts-length}
 use Rattle.raster.proofs.Bands.{valid-ones}
 use Rattle.histogram.proofs.Seeking.{here, target-most}
-use Rattle.histogram.proofs.Summary.{bins-below}
+use Rattle.histogram.proofs.Summaries.{bins-below}
 
 -- ---- "An invented valid count: it equals the number of 1 marks"
 
@@ -47,7 +47,7 @@ pub count-valid : (px : List Pixel) → statisticsOf px .«valid_count» ≡ len
 unfolding statisticsOf summaryOf
 count-valid px = summary-count (momentsFrom noMoments (validOf px)) (validOf px) ∙ none-count (validOf px)
 
-pub count-marks : (m : List ℕ) (d : List Float) → length m ≡ length d → badMark m ≡ false → statisticsOf (pixels m d) .«valid_count» ≡ countOf 1 m
+pub count-marks : (m : List ℕ) (d : List Float) → length m ≡ length d → marksRefused m ≡ false → statisticsOf (pixels m d) .«valid_count» ≡ countOf 1 m
 count-marks m d e b = count-valid (pixels m d) ∙ valid-ones m d e b
 
 -- ---- "The bins sum to the valid count."
@@ -78,13 +78,13 @@ record From (t before b : ℕ) (hs : List ℕ) (r : BinRank) : Type 0 where
   rank-is : before + sumOf (take place hs) + r .rank ≡ t
   rank-below : r .rank < r .size
 
-seek-from : (t before b : ℕ) (hs : List ℕ) → before ≤ t → t < before + sumOf hs → From t before b hs (seek t before b hs)
-unfolding seek sumOf
-seek-from t before b [] l g = absurd (omega arith)
-seek-from t before b (h ∷ []) l g =
+findBin-from : (t before b : ℕ) (hs : List ℕ) → before ≤ t → t < before + sumOf hs → From t before b hs (findBin t before b hs)
+unfolding findBin sumOf
+findBin-from t before b [] l g = absurd (omega arith)
+findBin-from t before b (h ∷ []) l g =
     record { place = 0; is = omega arith; inside = omega arith; size-is = refl; rank-is = omega arith; rank-below = omega arith }
-seek-from t before b (h ∷ h′ ∷ hs) l g =
-    go (ltb t (before + h)) (ltb-true t (before + h)) (ltb-false t (before + h)) (seek t (before + h) (suc b) (h′ ∷ hs)) (λ k. seek-from t (before + h) (suc b) (h′ ∷ hs) k (omega arith))
+findBin-from t before b (h ∷ h′ ∷ hs) l g =
+    go (ltb t (before + h)) (ltb-true t (before + h)) (ltb-false t (before + h)) (findBin t (before + h) (suc b) (h′ ∷ hs)) (λ k. findBin-from t (before + h) (suc b) (h′ ∷ hs) k (omega arith))
   where
     go : (u : Bool) → (u ≡ true → t < before + h) → (u ≡ false → before + h ≤ t) → (r : BinRank) → (before + h ≤ t → From t (before + h) (suc b) (h′ ∷ hs) r) →
         From t before b (h ∷ h′ ∷ hs) (cond u (here t before b h) r)
@@ -93,19 +93,19 @@ seek-from t before b (h ∷ h′ ∷ hs) l g =
         let k = f (n refl) in
         record { place = suc (k .place); is = omega (arith, k .is); inside = omega (arith, k .inside); size-is = k .size-is; rank-is = omega (arith, k .rank-is); rank-below = k .rank-below }
 
-pub seek-first : (t : ℕ) (hist : List ℕ) → t < sumOf hist → First t hist (seek t 0 0 hist)
-seek-first t hist g =
-    let f = seek-from t 0 0 hist (omega arith) (omega arith) in
-    let e : seek t 0 0 hist .bin ≡ f .place = omega (arith, f .is) in
+pub findBin-first : (t : ℕ) (hist : List ℕ) → t < sumOf hist → First t hist (findBin t 0 0 hist)
+findBin-first t hist g =
+    let f = findBin-from t 0 0 hist (omega arith) (omega arith) in
+    let e : findBin t 0 0 hist .bin ≡ f .place = omega (arith, f .is) in
     record {
       inside = omega (arith, e, f .inside);
       size-is = f .size-is ∙ ap (λ (n : ℕ). getD hist n 0) (sym e);
-      rank-is = ap (λ (n : ℕ). sumOf (take n hist) + seek t 0 0 hist .rank) e ∙ omega (arith, f .rank-is);
+      rank-is = ap (λ (n : ℕ). sumOf (take n hist) + findBin t 0 0 hist .rank) e ∙ omega (arith, f .rank-is);
       rank-below = f .rank-below;
     }
 
 -- for any fraction of the values that the bins hold
 pub target-first : (p least inv : Float) (vs : List Float) → 0 < length vs →
-    First (target p (length vs)) (histogram (map (binOf least inv) vs)) (seek (target p (length vs)) 0 0 (histogram (map (binOf least inv) vs)))
+    First (targetOf p (length vs)) (histogram (map (binOf least inv) vs)) (findBin (targetOf p (length vs)) 0 0 (histogram (map (binOf least inv) vs)))
 target-first p least inv vs h =
-    seek-first (target p (length vs)) (histogram (map (binOf least inv) vs)) (omega (arith, target-most p (length vs), bins-sum least inv vs))
+    findBin-first (targetOf p (length vs)) (histogram (map (binOf least inv) vs)) (omega (arith, target-most p (length vs), bins-sum least inv vs))

@@ -7,7 +7,7 @@ use native.Mathlib.Omega.{arith}
 use lib.Dec.{T}
 use lib.ListN.{length, getD, set, drop, replicate}
 use lib.Ieee.{Float, nan, binary64, mul, sub, le, ofBits, toUnsigned}
-use Rattle.spec.specs.Floats.{zero64, one64, held}
+use Rattle.spec.specs.Floats.{zero64, one64, clampFloat}
 use Rattle.spec.specs.Bins.{bins64, binOf}
 use Rattle.spec.specs.Lists.{added, stored}
 use Rattle.spec.specs.Pixels.{Pixel, off, on, pixels, validOf}
@@ -20,18 +20,18 @@ use Rattle.numeric.proofs.Picks.{clamped-lo, clamped-hi}
 -- ---- one bin
 
 -- a value held to 0..1, in 4,096ths
-place-low : (x : Float) → T (le zero64 (mul binary64 (held zero64 one64 x) bins64))
+place-low : (x : Float) → T (le zero64 (mul binary64 (clampFloat zero64 one64 x) bins64))
 unfolding ofBits mul le
-place-low x = mul-le binary64 bins64 tt zero64 (held zero64 one64 x) (clamped-lo x zero64 one64 tt)
+place-low x = mul-le binary64 bins64 tt zero64 (clampFloat zero64 one64 x) (clamped-lo x zero64 one64 tt)
 
-place-high : (x : Float) → T (le (mul binary64 (held zero64 one64 x) bins64) full16)
+place-high : (x : Float) → T (le (mul binary64 (clampFloat zero64 one64 x) bins64) full16)
 unfolding ofBits mul le
-place-high x = le-trans (mul binary64 (held zero64 one64 x) bins64) bins64 full16 (mul-le binary64 bins64 tt (held zero64 one64 x) one64 (clamped-hi x zero64 one64 tt)) tt
+place-high x = le-trans (mul binary64 (clampFloat zero64 one64 x) bins64) bins64 full16 (mul-le binary64 bins64 tt (clampFloat zero64 one64 x) one64 (clamped-hi x zero64 one64 tt)) tt
 
-pub place-small : (x t : Float) → t ≡ held zero64 one64 x → T (le zero64 (mul binary64 t bins64)) × T (le (mul binary64 t bins64) full16)
+pub place-small : (x t : Float) → t ≡ clampFloat zero64 one64 x → T (le zero64 (mul binary64 t bins64)) × T (le (mul binary64 t bins64) full16)
 place-small x t e = rw e (place-low x, place-high x)
 
-module _ (least inv v t : Float) (b : ℕ) (e : t ≡ held zero64 one64 (mul binary64 (sub binary64 v least) inv)) (h : b ≡ toUnsigned 64 (mul binary64 t bins64)) where
+module _ (least inv v t : Float) (b : ℕ) (e : t ≡ clampFloat zero64 one64 (mul binary64 (sub binary64 v least) inv)) (h : b ≡ toUnsigned 64 (mul binary64 t bins64)) where
   bin-is : min b 4095 ≡ binOf least inv v
   unfolding binOf
   bin-is = ap (λ (n : ℕ). min n 4095) (h ∙ ap (λ (x : Float). toUnsigned 64 (mul binary64 x bins64)) e)

@@ -1,7 +1,7 @@
 pub mod Passes
 pub mod Filling
 pub mod Seeking
-pub mod Summary
+pub mod Summaries
 pub mod Statistics
 pub mod Counting
 pub mod Extremes

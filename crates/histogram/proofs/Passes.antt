@@ -11,7 +11,7 @@ use Rattle.spec.specs.Floats.{ofCount}
 use Rattle.spec.specs.Lists.{any}
 use Rattle.spec.specs.Moments.{noMoments, withValue, momentsFrom}
 use Rattle.spec.specs.Pixels.{Pixel, off, on, pixels, validOf}
-use Rattle.spec.specs.Refusals.{badPixel, badDecibel}
+use Rattle.spec.specs.Refusals.{decibelRefused, decibelsRefused}
 use Rattle.raster.proofs.Bands.{next-off, next-on, drop-end}
 use Rattle.raster.proofs.Passes.{any-here, any-not-here, any-none}
 use Rattle.histogram.specs.declared.moments.FirstPass.the-variants.{Passed, BadDecibel}
@@ -53,8 +53,8 @@ value-extreme s t v e =
       m2 = add binary64 (s .m2) (mul binary64 (sub binary64 v (s .mean)) (sub binary64 v (add binary64 (s .mean) (div binary64 (sub binary64 v (s .mean)) (ofCount (u .count))))));
     }) e
 
-bad-off : badPixel off ≡ false
-unfolding badPixel
+bad-off : decibelRefused off ≡ false
+unfolding decibelRefused
 bad-off = refl
 
 valid-none : validOf [] ≡ []
@@ -73,12 +73,12 @@ valid-on v ps = refl
 pub record Along (fold : Moments → List Float → Moments) (m : List ℕ) (d : List Float) (s : Moments) (i : ℕ) : Type 0 where
   pub place : i ≤ length d
   pub few : s .count ≤ i
-  pub good : badDecibel (pixels m d) ≡ any badPixel (drop i (pixels m d))
+  pub good : decibelsRefused (pixels m d) ≡ any decibelRefused (drop i (pixels m d))
   pub rest : fold noMoments (validOf (pixels m d)) ≡ fold s (validOf (drop i (pixels m d)))
 
 module _ {step : Moments → Float → Moments} {fold : Moments → List Float → Moments} (f : Fold step fold) (m : List ℕ) (d : List Float) where
   pub start : (s : Moments) → s ≡ noMoments → Along fold m d s 0
-  unfolding badDecibel noMoments
+  unfolding decibelsRefused noMoments
   start s e = record { place = omega arith; few = omega (arith, ap (λ (t : Moments). t .count) e); good = refl; rest = ap (λ (t : Moments). fold t (validOf (pixels m d))) (sym e) }
 
   module _ (s : Moments) (i : ℕ) (a : Along fold m d s i) where
@@ -86,7 +86,7 @@ module _ {step : Moments → Float → Moments} {fold : Moments → List Float �
     unfolding passed
     finish h =
         let e = drop-end m d i h in
-        let b : badDecibel (pixels m d) ≡ false = a .good ∙ ap (any badPixel) e ∙ any-none badPixel in
+        let b : decibelsRefused (pixels m d) ≡ false = a .good ∙ ap (any decibelRefused) e ∙ any-none decibelRefused in
         let r : fold noMoments (validOf (pixels m d)) ≡ s = a .rest ∙ ap (λ (ps : List Pixel). fold s (validOf ps)) e ∙ ap (fold s) valid-none ∙ f .nil s in
         rw b (ap Passed r)
 
@@ -97,23 +97,23 @@ module _ {step : Moments → Float → Moments} {fold : Moments → List Float �
           record {
             place = omega arith;
             few = omega (arith, a .few);
-            good = a .good ∙ ap (any badPixel) n ∙ any-not-here badPixel off (drop (i + 1) (pixels m d)) bad-off;
+            good = a .good ∙ ap (any decibelRefused) n ∙ any-not-here decibelRefused off (drop (i + 1) (pixels m d)) bad-off;
             rest = a .rest ∙ ap (λ (ps : List Pixel). fold s (validOf ps)) n ∙ ap (fold s) (valid-off (drop (i + 1) (pixels m d)));
           }
 
       module _ (n : getD m i 0 ≡ 0 → ⊥) where
-        pub bad : badPixel (on (getD d i nan)) ≡ true → passed (pixels m d) (fold noMoments (validOf (pixels m d))) ≡ BadDecibel
+        pub bad : decibelRefused (on (getD d i nan)) ≡ true → passed (pixels m d) (fold noMoments (validOf (pixels m d))) ≡ BadDecibel
         unfolding passed
-        bad e = rw (a .good ∙ ap (any badPixel) (next-on m d i h k n) ∙ any-here badPixel (on (getD d i nan)) (drop (i + 1) (pixels m d)) e)
+        bad e = rw (a .good ∙ ap (any decibelRefused) (next-on m d i h k n) ∙ any-here decibelRefused (on (getD d i nan)) (drop (i + 1) (pixels m d)) e)
 
-        pub take : (s′ : Moments) → badPixel (on (getD d i nan)) ≡ false → s′ ≡ step s (getD d i nan) → Along fold m d s′ (i + 1)
+        pub take : (s′ : Moments) → decibelRefused (on (getD d i nan)) ≡ false → s′ ≡ step s (getD d i nan) → Along fold m d s′ (i + 1)
         take s′ e q =
             let x = next-on m d i h k n in
             let v = getD d i nan in
             record {
               place = omega arith;
               few = omega (arith, a .few, f .counts s v, ap (λ (t : Moments). t .count) q);
-              good = a .good ∙ ap (any badPixel) x ∙ any-not-here badPixel (on v) (drop (i + 1) (pixels m d)) e;
+              good = a .good ∙ ap (any decibelRefused) x ∙ any-not-here decibelRefused (on v) (drop (i + 1) (pixels m d)) e;
               rest = a .rest ∙ ap (λ (ps : List Pixel). fold s (validOf ps)) x ∙ ap (fold s) (valid-on v (drop (i + 1) (pixels m d)))
                   ∙ f .cons s v (validOf (drop (i + 1) (pixels m d))) ∙ ap (λ (t : Moments). fold t (validOf (drop (i + 1) (pixels m d)))) (sym q);
             }

@@ -13,28 +13,28 @@ use lib.Seq.{drop-cons, drop-length}
 use lib.Ieee.{Float, binary64, mul, toUnsigned}
 use Rattle.types.specs.declared.BinRank.{BinRank}
 use Rattle.spec.specs.Floats.{ofCount}
-use Rattle.spec.specs.Percentile.{target, seek}
+use Rattle.spec.specs.Percentile.{targetOf, findBin}
 
 -- ---- the target
 
-pub target-none : (p : Float) (count : ℕ) → count ≡ 0 → 0 ≡ target p count
-unfolding target
+pub target-none : (p : Float) (count : ℕ) → count ≡ 0 → 0 ≡ targetOf p count
+unfolding targetOf
 target-none p count e = rw e (sym (min-eq-right zero-le))
 
 module _ (p : Float) (count n : ℕ) (e : n ≡ toUnsigned 64 (mul binary64 p (ofCount count))) where
-  target-is : min n (count - 1) ≡ target p count
-  unfolding target
+  target-is : min n (count - 1) ≡ targetOf p count
+  unfolding targetOf
   target-is = ap (λ (k : ℕ). min k (count - 1)) e
 
-  pub target-place : n < count - 1 → n ≡ target p count
+  pub target-place : n < count - 1 → n ≡ targetOf p count
   target-place h = sym (min-eq-left (le-of-lt h)) ∙ target-is
 
   -- "at most count - 1"
-  pub target-last : count - 1 ≤ n → count - 1 ≡ target p count
+  pub target-last : count - 1 ≤ n → count - 1 ≡ targetOf p count
   target-last h = sym (min-eq-right h) ∙ target-is
 
-pub target-most : (p : Float) (count : ℕ) → target p count ≤ count - 1
-unfolding target
+pub target-most : (p : Float) (count : ℕ) → targetOf p count ≤ count - 1
+unfolding targetOf
 target-most p count = min-le-right _ (count - 1)
 
 -- ---- the walk
@@ -43,53 +43,53 @@ abbrev pub here : ℕ → ℕ → ℕ → ℕ → BinRank
 here t before i h = record { bin = i; size = h; rank = t - before }
 
 module _ (t before : ℕ) where
-  seek-one : (i h : ℕ) (hs : List ℕ) → t < before + h → seek t before i (h ∷ hs) ≡ here t before i h
-  unfolding seek
-  seek-one i h [] l = refl
-  seek-one i h (h′ ∷ hs) l = ap (λ (b : Bool). cond b (here t before i h) (seek t (before + h) (suc i) (h′ ∷ hs))) (lt-ltb t (before + h) l)
+  findBin-one : (i h : ℕ) (hs : List ℕ) → t < before + h → findBin t before i (h ∷ hs) ≡ here t before i h
+  unfolding findBin
+  findBin-one i h [] l = refl
+  findBin-one i h (h′ ∷ hs) l = ap (λ (b : Bool). cond b (here t before i h) (findBin t (before + h) (suc i) (h′ ∷ hs))) (lt-ltb t (before + h) l)
 
-  seek-only : (i h : ℕ) (hs : List ℕ) → hs ≡ [] → seek t before i (h ∷ hs) ≡ here t before i h
-  unfolding seek
-  seek-only i h hs e = rw e
+  findBin-only : (i h : ℕ) (hs : List ℕ) → hs ≡ [] → findBin t before i (h ∷ hs) ≡ here t before i h
+  unfolding findBin
+  findBin-only i h hs e = rw e
 
-  seek-on : (i h : ℕ) (hs : List ℕ) → 0 < length hs → before + h ≤ t → seek t before i (h ∷ hs) ≡ seek t (before + h) (suc i) hs
-  unfolding seek
-  seek-on i h [] l g = absurd (omega arith)
-  seek-on i h (h′ ∷ hs) l g = ap (λ (b : Bool). cond b (here t before i h) (seek t (before + h) (suc i) (h′ ∷ hs))) (le-ltb t (before + h) g)
+  findBin-on : (i h : ℕ) (hs : List ℕ) → 0 < length hs → before + h ≤ t → findBin t before i (h ∷ hs) ≡ findBin t (before + h) (suc i) hs
+  unfolding findBin
+  findBin-on i h [] l g = absurd (omega arith)
+  findBin-on i h (h′ ∷ hs) l g = ap (λ (b : Bool). cond b (here t before i h) (findBin t (before + h) (suc i) (h′ ∷ hs))) (le-ltb t (before + h) g)
 
   module _ (hist : List ℕ) (i : ℕ) (l : i < length hist) where
     -- its running count exceeds the target
-    pub seek-here : t < before + getD hist i 0 → seek t before i (drop i hist) ≡ here t before i (getD hist i 0)
-    seek-here g = ap (seek t before i) (drop-cons hist i 0 l) ∙ seek-one i (getD hist i 0) (drop (suc i) hist) g
+    pub findBin-here : t < before + getD hist i 0 → findBin t before i (drop i hist) ≡ here t before i (getD hist i 0)
+    findBin-here g = ap (findBin t before i) (drop-cons hist i 0 l) ∙ findBin-one i (getD hist i 0) (drop (suc i) hist) g
 
     -- the last bin
-    pub seek-last : length hist ≡ i + 1 → seek t before i (drop i hist) ≡ here t before i (getD hist i 0)
-    seek-last e =
-        ap (seek t before i) (drop-cons hist i 0 l)
-        ∙ seek-only i (getD hist i 0) (drop (suc i) hist) (ap (λ (n : ℕ). drop n hist) (sym (e ∙ add-one i)) ∙ drop-length hist)
+    pub findBin-last : length hist ≡ i + 1 → findBin t before i (drop i hist) ≡ here t before i (getD hist i 0)
+    findBin-last e =
+        ap (findBin t before i) (drop-cons hist i 0 l)
+        ∙ findBin-only i (getD hist i 0) (drop (suc i) hist) (ap (λ (n : ℕ). drop n hist) (sym (e ∙ add-one i)) ∙ drop-length hist)
 
     -- the walk goes on
-    pub seek-next : i + 1 < length hist → before + getD hist i 0 ≤ t → seek t before i (drop i hist) ≡ seek t (before + getD hist i 0) (i + 1) (drop (i + 1) hist)
-    seek-next k g =
-        rw add-one (ap (seek t before i) (drop-cons hist i 0 l) ∙ seek-on i (getD hist i 0) (drop (suc i) hist) (omega (arith, length-drop (suc i) hist)) g)
+    pub findBin-next : i + 1 < length hist → before + getD hist i 0 ≤ t → findBin t before i (drop i hist) ≡ findBin t (before + getD hist i 0) (i + 1) (drop (i + 1) hist)
+    findBin-next k g =
+        rw add-one (ap (findBin t before i) (drop-cons hist i 0 l) ∙ findBin-on i (getD hist i 0) (drop (suc i) hist) (omega (arith, length-drop (suc i) hist)) g)
 
 -- ---- where the walk ends
 
-pub seek-bin-most : (t before b : ℕ) (hs : List ℕ) → 0 < length hs → seek t before b hs .bin < b + length hs
-unfolding seek
-seek-bin-most t before b [] l = absurd (omega arith)
-seek-bin-most t before b (h ∷ []) l = omega arith
-seek-bin-most t before b (h ∷ h′ ∷ hs) l = go (ltb t (before + h)) (seek t (before + h) (suc b) (h′ ∷ hs)) (seek-bin-most t (before + h) (suc b) (h′ ∷ hs) (omega arith))
+pub findBin-bin-most : (t before b : ℕ) (hs : List ℕ) → 0 < length hs → findBin t before b hs .bin < b + length hs
+unfolding findBin
+findBin-bin-most t before b [] l = absurd (omega arith)
+findBin-bin-most t before b (h ∷ []) l = omega arith
+findBin-bin-most t before b (h ∷ h′ ∷ hs) l = go (ltb t (before + h)) (findBin t (before + h) (suc b) (h′ ∷ hs)) (findBin-bin-most t (before + h) (suc b) (h′ ∷ hs) (omega arith))
   where
     go : (u : Bool) (r : BinRank) → r .bin < suc b + length (h′ ∷ hs) → cond u (here t before b h) r .bin < b + length (h ∷ h′ ∷ hs)
     go true r g = omega arith
     go false r g = omega arith
 
-pub seek-rank-most : (t before b : ℕ) (hs : List ℕ) → seek t before b hs .rank ≤ t
-unfolding seek
-seek-rank-most t before b [] = omega arith
-seek-rank-most t before b (h ∷ []) = omega arith
-seek-rank-most t before b (h ∷ h′ ∷ hs) = go (ltb t (before + h)) (seek t (before + h) (suc b) (h′ ∷ hs)) (seek-rank-most t (before + h) (suc b) (h′ ∷ hs))
+pub findBin-rank-most : (t before b : ℕ) (hs : List ℕ) → findBin t before b hs .rank ≤ t
+unfolding findBin
+findBin-rank-most t before b [] = omega arith
+findBin-rank-most t before b (h ∷ []) = omega arith
+findBin-rank-most t before b (h ∷ h′ ∷ hs) = go (ltb t (before + h)) (findBin t (before + h) (suc b) (h′ ∷ hs)) (findBin-rank-most t (before + h) (suc b) (h′ ∷ hs))
   where
     go : (u : Bool) (r : BinRank) → r .rank ≤ t → cond u (here t before b h) r .rank ≤ t
     go true r g = omega arith

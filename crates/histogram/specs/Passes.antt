@@ -3,17 +3,17 @@ use mathlib.Core.Bool.{cond}
 use mathlib.Core.List.{List}
 use Rattle.types.specs.declared.Moments.{Moments}
 use Rattle.spec.specs.Pixels.{Pixel, validOf}
-use Rattle.spec.specs.Refusals.{badDecibel}
+use Rattle.spec.specs.Refusals.{decibelsRefused}
 use Rattle.spec.specs.Moments.{noMoments, momentsFrom}
 use Rattle.histogram.specs.declared.moments.FirstPass.{FirstPass}
 use Rattle.histogram.specs.declared.moments.FirstPass.the-variants.{Passed, BadDecibel}
 use Rattle.histogram.specs.Extremes.{extremesFrom}
 
 unfoldable pub passed : List Pixel → Moments → FirstPass
-passed px s = cond (badDecibel px) BadDecibel (Passed s)
+passed px s = cond (decibelsRefused px) BadDecibel (Passed s)
 
 unfoldable pub firstPass : List Pixel → FirstPass
 firstPass px = passed px (momentsFrom noMoments (validOf px))
 
-unfoldable pub extremesPass : List Pixel → FirstPass
-extremesPass px = passed px (extremesFrom noMoments (validOf px))
+unfoldable pub extremes : List Pixel → FirstPass
+extremes px = passed px (extremesFrom noMoments (validOf px))

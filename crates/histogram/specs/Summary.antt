@@ -6,7 +6,7 @@ use lib.Ieee.{Float, binary64, sub, div, lt}
 use Rattle.types.specs.declared.HistogramStats.{HistogramStats}
 use Rattle.types.specs.declared.Moments.{Moments}
 use Rattle.spec.specs.Bins.{bins64}
-use Rattle.spec.specs.Percentile.{percentile}
+use Rattle.spec.specs.Percentile.{estimatePercentile}
 use Rattle.spec.specs.Statistics.{flat64, gathered, flatPercentile}
 
 unfoldable pub spanOf : Moments → Float
@@ -17,7 +17,7 @@ unfoldable pub isFlat : Moments → Bool
 isFlat s = lt (spanOf s) flat64
 
 unfoldable pub spreadStats : Moments → List ℕ → HistogramStats
-spreadStats s hist = gathered s (percentile (s .«min_db») (div binary64 (spanOf s) bins64) (s .count) hist)
+spreadStats s hist = gathered s (estimatePercentile (s .«min_db») (div binary64 (spanOf s) bins64) (s .count) hist)
 
 unfoldable pub statsFromBins : Moments → List ℕ → HistogramStats
 statsFromBins s hist =

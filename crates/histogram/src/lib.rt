@@ -3,7 +3,7 @@ ghost use mathlib.Core.Path.{_≡_};
 ghost use Prim.Native.Nat.{_<_, _^_};
 ghost use lib.ListN.{length};
 ghost use Rattle.spec.specs.Pixels.{pixels, validOf};
-ghost use Rattle.spec.specs.Statistics.{deviationOf, gathered, flatPercentile, summary, statisticsCall, readStatistics};
+ghost use Rattle.spec.specs.Statistics.{deviationOf, gathered, flatPercentile, summary, computeHistogramStats, readStatistics};
 ghost use Rattle.histogram.specs.Summary.{isFlat, spreadStats, statsFromBins};
 use types::HistogramStats;
 use types::Moments;
@@ -107,7 +107,7 @@ pub fn stats_from_bins(m: Moments, hist: &[u32]) -> HistogramStats
 }
 
 // The record of a band whose moments are known; nothing is refused here.
-pub fn summary_of(db: &[f64], valid_mask: &[u8], m: Moments) -> HistogramStats
+pub fn summary(db: &[f64], valid_mask: &[u8], m: Moments) -> HistogramStats
     requires { ⌜ (length (now «valid_mask») ≡ length (now db)) × (length (now db) < 2 ^ 32) ⌝ }
     ensures { λ r. ⌜ r ≡ summary m (validOf (pixels (now («valid_mask» .entry)) (now (db .entry)))) ⌝ }
 {
@@ -127,7 +127,7 @@ pub fn compute_histogram_stats(
     db: &[f64],
     valid_mask: &[u8],
 ) -> StatisticsAnswer
-    ensures { λ r. ⌜ readStatistics r ≡ statisticsCall rows cols (now («valid_mask» .entry)) (now (db .entry)) ⌝ }
+    ensures { λ r. ⌜ readStatistics r ≡ computeHistogramStats rows cols (now («valid_mask» .entry)) (now (db .entry)) ⌝ }
 {
     let refusal = raster::shape_refusal(rows, cols, db, valid_mask);
     if refusal != 0 {
@@ -136,5 +136,5 @@ pub fn compute_histogram_stats(
     let moments::FirstPass::Passed(m) = moments::first_pass(db, valid_mask) else {
         return StatisticsAnswer::Refused(4);
     };
-    StatisticsAnswer::Statistics(summary_of(db, valid_mask, m))
+    StatisticsAnswer::Statistics(summary(db, valid_mask, m))
 }

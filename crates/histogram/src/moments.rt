@@ -7,7 +7,7 @@ ghost use lib.Ieee.{lt};
 ghost use Rattle.spec.specs.Moments.{noMoments, withValue};
 ghost use Rattle.spec.specs.Pixels.{pixels};
 ghost use Rattle.histogram.specs.Extremes.{withExtreme};
-ghost use Rattle.histogram.specs.Passes.{firstPass, extremesPass};
+ghost use Rattle.histogram.specs.Passes.{firstPass, extremes};
 use types::Moments;
 
 // What a pass over a band finds: the moments of its valid dB, or that one of them is refused.
@@ -105,7 +105,7 @@ pub fn first_pass(db: &[f64], valid_mask: &[u8]) -> FirstPass
 // The same with mean and m2 left at 0, for those who read neither.
 pub fn extremes(db: &[f64], valid_mask: &[u8]) -> FirstPass
     requires { ⌜ (length (now «valid_mask») ≡ length (now db)) × (length (now db) < 2 ^ 32) ⌝ }
-    ensures { λ r. ⌜ r ≡ extremesPass (pixels (now («valid_mask» .entry)) (now (db .entry))) ⌝ }
+    ensures { λ r. ⌜ r ≡ extremes (pixels (now («valid_mask» .entry)) (now (db .entry))) ⌝ }
 {
     let mut m = no_moments();
     let mut i: usize = 0;

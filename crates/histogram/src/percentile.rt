@@ -2,13 +2,13 @@
 ghost use mathlib.Core.Path.{_≡_};
 ghost use Prim.Native.Nat.{_<_, _^_};
 ghost use lib.ListN.{length};
-ghost use Rattle.spec.specs.Percentile.{target, seek, valueAt, percentile};
+ghost use Rattle.spec.specs.Percentile.{targetOf, findBin, valueAt, estimatePercentile};
 use types::BinRank;
 use types::Percentile;
 
 // "target = floor(p × count), at most count - 1"; 0 for no value.
 pub fn target_of(p: f64, count: u32) -> u64
-    ensures { λ r. ⌜ r ≡ target p count ⌝ }
+    ensures { λ r. ⌜ r ≡ targetOf p count ⌝ }
 {
     let place = numeric::f64_as_u64(p * (count as f64));
     if count == 0 {
@@ -21,7 +21,7 @@ pub fn target_of(p: f64, count: u32) -> u64
 // "take the first bin whose running count exceeds the target": the last bin if none does.
 pub fn find_bin(hist: &[u32], target: u64) -> BinRank
     requires { ⌜ (length (now hist) ≡ 4096) × (target < 2 ^ 32) ⌝ }
-    ensures { λ r. ⌜ r ≡ seek target 0 0 (now (hist .entry)) ⌝ }
+    ensures { λ r. ⌜ r ≡ findBin target 0 0 (now (hist .entry)) ⌝ }
 {
     let mut bin: usize = 0;
     let mut before: u64 = 0;
@@ -70,7 +70,7 @@ pub fn estimate_percentile(
     p: f64,
 ) -> Percentile
     requires { ⌜ length (now hist) ≡ 4096 ⌝ }
-    ensures { λ r. ⌜ r ≡ percentile «min_db» «bin_width» count (now (hist .entry)) p ⌝ }
+    ensures { λ r. ⌜ r ≡ estimatePercentile «min_db» «bin_width» count (now (hist .entry)) p ⌝ }
 {
     let target = target_of(p, count);
     let found = find_bin(hist, target);

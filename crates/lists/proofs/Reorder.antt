@@ -8,7 +8,7 @@ use native.Mathlib.Omega.{arith}
 use lib.ListN.{length, getD}
 use Rattle.spec.specs.Lists.{placesFrom, places, any, lowest, highest}
 use Rattle.spec.specs.Pixels.{Pixel, off, on, validOf}
-use Rattle.spec.specs.Colour.{floorOf}
+use Rattle.spec.specs.Colour.{floorLevel}
 use Rattle.spec.specs.Places.{Order, moved}
 use Rattle.lists.proofs.Counts.{counts-perm}
 
@@ -77,8 +77,8 @@ highest-perm m (List·Permᴰ·swap {a = x} {b = y} {a′ = z} {l = l} e f) =
 highest-perm m (List·Permᴰ·trans p q) = highest-perm m p ∙ highest-perm m q
 
 -- the suppressed floor
-pub floor-perm : {a a′ b b′ : List ℕ} → List·Permᴰ a a′ → List·Permᴰ b b′ → floorOf a b ≡ floorOf a′ b′
-unfolding floorOf
+pub floor-perm : {a a′ b b′ : List ℕ} → List·Permᴰ a a′ → List·Permᴰ b b′ → floorLevel a b ≡ floorLevel a′ b′
+unfolding floorLevel
 floor-perm {a} {a′} {b} {b′} p q = cc (perm-length p, perm-length q, counts-perm 256 (List·Permᴰ·trans (Permᴰ·append-right b p) (Permᴰ·append-left a′ q)))
 
 -- ---- place by place

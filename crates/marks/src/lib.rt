@@ -5,7 +5,7 @@ ghost use mathlib.Core.List.{[], _∷_, map};
 ghost use lib.ListN.{length};
 ghost use Rattle.spec.specs.Answer.{firstOf, number, replyNumber, after};
 ghost use Rattle.spec.specs.Refusals.{tooLong, unlike};
-ghost use Rattle.spec.specs.Marks.{markOf, marksCall};
+ghost use Rattle.spec.specs.Marks.{markOf, processScalarDataMask};
 use types::Reply;
 
 // The mark of one value: 0 for a NaN.
@@ -42,8 +42,8 @@ fn refusal(processed: usize, valid_mask: usize) -> u8
 
 // The marks of a whole list.
 pub fn process_scalar_data_mask(processed: &[f32], valid_mask: &mut [u8]) -> Reply
-    ensures reply { λ r. ⌜ replyNumber r ≡ number (marksCall (now (processed .entry)) (length (now («valid_mask» .entry)))) ⌝ }
-    ensures marks { λ _. ⌜ now («valid_mask» .exit) ≡ after (λ l. l) (marksCall (now (processed .entry)) (length (now («valid_mask» .entry)))) (now («valid_mask» .entry)) ⌝ }
+    ensures reply { λ r. ⌜ replyNumber r ≡ number (processScalarDataMask (now (processed .entry)) (length (now («valid_mask» .entry)))) ⌝ }
+    ensures marks { λ _. ⌜ now («valid_mask» .exit) ≡ after (λ l. l) (processScalarDataMask (now (processed .entry)) (length (now («valid_mask» .entry)))) (now («valid_mask» .entry)) ⌝ }
 {
     let refused = refusal(processed.len(), valid_mask.len());
     if refused > 0 {

@@ -11,8 +11,8 @@ use lib.Ieee.{Float, nan, inf, fin, binary64, up, down, unlike, below, level, ro
 use lib.Ieee.Fits.{down-pos, up-pos}
 use lib.Ieee.Positive.{positive}
 use lib.Ieee.Scale.{round-same}
-use Rattle.spec.specs.Floats.{larger, smaller, held, magnitude, rounded}
-use Rattle.spec.specs.Root.{root}
+use Rattle.spec.specs.Floats.{maxFloat, minFloat, clampFloat, absFloat, roundAsU64}
+use Rattle.spec.specs.Root.{sqrtFloat}
 use Rattle.spec.specs.Number.{Alike, same, zeros}
 
 abbrev nil : Bool → Float
@@ -234,14 +234,14 @@ pick-alike false false e p r = r
 pick-alike true false e p r = absurd (true≢false e)
 pick-alike false true e p r = absurd (true≢false (sym e))
 
-pub larger-alike : {a a′ b b′ : Float} → Alike a a′ → Alike b b′ → Alike (larger a b) (larger a′ b′)
-larger-alike p r = pick-alike _ _ (lt-alike r p) p r
+pub maxFloat-alike : {a a′ b b′ : Float} → Alike a a′ → Alike b b′ → Alike (maxFloat a b) (maxFloat a′ b′)
+maxFloat-alike p r = pick-alike _ _ (lt-alike r p) p r
 
-pub smaller-alike : {a a′ b b′ : Float} → Alike a a′ → Alike b b′ → Alike (smaller a b) (smaller a′ b′)
-smaller-alike p r = pick-alike _ _ (lt-alike p r) p r
+pub minFloat-alike : {a a′ b b′ : Float} → Alike a a′ → Alike b b′ → Alike (minFloat a b) (minFloat a′ b′)
+minFloat-alike p r = pick-alike _ _ (lt-alike p r) p r
 
-pub held-alike : {l l′ h h′ v v′ : Float} → Alike l l′ → Alike h h′ → Alike v v′ → Alike (held l h v) (held l′ h′ v′)
-held-alike l h v = smaller-alike (larger-alike v l) h
+pub clampFloat-alike : {l l′ h h′ v v′ : Float} → Alike l l′ → Alike h h′ → Alike v v′ → Alike (clampFloat l h v) (clampFloat l′ h′ v′)
+clampFloat-alike l h v = minFloat-alike (maxFloat-alike v l) h
 
 -- ---- where the result is the same, and not only the same number
 
@@ -253,23 +253,23 @@ whole-alike (zeros true false) = refl
 whole-alike (zeros false true) = refl
 whole-alike (zeros false false) = refl
 
-pub rounded-alike : {x x′ : Float} → Alike x x′ → rounded x ≡ rounded x′
-unfolding rounded
-rounded-alike same = refl
-rounded-alike (zeros true true) = refl
-rounded-alike (zeros true false) = refl
-rounded-alike (zeros false true) = refl
-rounded-alike (zeros false false) = refl
+pub roundAsU64-alike : {x x′ : Float} → Alike x x′ → roundAsU64 x ≡ roundAsU64 x′
+unfolding roundAsU64
+roundAsU64-alike same = refl
+roundAsU64-alike (zeros true true) = refl
+roundAsU64-alike (zeros true false) = refl
+roundAsU64-alike (zeros false true) = refl
+roundAsU64-alike (zeros false false) = refl
 
-pub magnitude-alike : {x x′ : Float} → Alike x x′ → magnitude x ≡ magnitude x′
-unfolding magnitude
-magnitude-alike same = refl
-magnitude-alike (zeros s t) = refl
+pub absFloat-alike : {x x′ : Float} → Alike x x′ → absFloat x ≡ absFloat x′
+unfolding absFloat
+absFloat-alike same = refl
+absFloat-alike (zeros s t) = refl
 
-pub root-alike : {x x′ : Float} → Alike x x′ → Alike (root x) (root x′)
-unfolding root
-root-alike same = same
-root-alike (zeros s t) = zeros s t
+pub sqrtFloat-alike : {x x′ : Float} → Alike x x′ → Alike (sqrtFloat x) (sqrtFloat x′)
+unfolding sqrtFloat
+sqrtFloat-alike same = same
+sqrtFloat-alike (zeros s t) = zeros s t
 
 -- a value above zero is no zero
 pub positive-alike : {x x′ : Float} → Alike x x′ → T (positive x) → x ≡ x′
@@ -278,14 +278,14 @@ positive-alike (zeros true t) p = absurd p
 positive-alike (zeros false t) p = absurd p
 
 -- the larger of a zero and a value above zero is the latter
-larger-nil : (s : Bool) (c : Float) → T (positive c) → larger (nil s) c ≡ c
+maxFloat-nil : (s : Bool) (c : Float) → T (positive c) → maxFloat (nil s) c ≡ c
 unfolding lt
-larger-nil s nan p = absurd p
-larger-nil s (inf t) p = absurd p
-larger-nil s (fin true n d) p = absurd p
-larger-nil true (fin false n d) p = refl
-larger-nil false (fin false n d) p = ap (λ (q : Bool). cond q (nil false) (fin false n d)) (le-ltb (n * up d * 1) (0 * down d) (omega (arith, zero-mul (down d))))
+maxFloat-nil s nan p = absurd p
+maxFloat-nil s (inf t) p = absurd p
+maxFloat-nil s (fin true n d) p = absurd p
+maxFloat-nil true (fin false n d) p = refl
+maxFloat-nil false (fin false n d) p = ap (λ (q : Bool). cond q (nil false) (fin false n d)) (le-ltb (n * up d * 1) (0 * down d) (omega (arith, zero-mul (down d))))
 
-pub larger-same : {x x′ : Float} (c : Float) → T (positive c) → Alike x x′ → larger x c ≡ larger x′ c
-larger-same c p same = refl
-larger-same c p (zeros s t) = larger-nil s c p ∙ sym (larger-nil t c p)
+pub maxFloat-same : {x x′ : Float} (c : Float) → T (positive c) → Alike x x′ → maxFloat x c ≡ maxFloat x′ c
+maxFloat-same c p same = refl
+maxFloat-same c p (zeros s t) = maxFloat-nil s c p ∙ sym (maxFloat-nil t c p)

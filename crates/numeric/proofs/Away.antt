@@ -14,13 +14,13 @@ use lib.Ieee.Fits.{and-l, and-r, up-pos, neg-fits, round-fits}
 use lib.Ieee.Order.{le-of-values}
 use lib.Ieee.Positive.{den, den-pos}
 use lib.Ieee.Scale.{finite}
-use Rattle.spec.specs.Floats.{rounded}
-use Rattle.numeric.specs.Round.{halfAway}
+use Rattle.spec.specs.Floats.{roundAsU64}
+use Rattle.numeric.specs.Round.{roundFloat}
 use Rattle.numeric.proofs.Order.{plus, less, le-of-lt, le-trans as le-trans'}
 use Rattle.numeric.proofs.Facts.{zero-exponent}
-use Rattle.numeric.proofs.Picks.{rounded-le}
+use Rattle.numeric.proofs.Picks.{roundAsU64-le}
 use Rattle.numeric.proofs.Round.{round-neg, neg-neg}
-use Rattle.numeric.proofs.Values.{add-values, value-below, value-above, nothing-less, whole-of, rounded-of}
+use Rattle.numeric.proofs.Values.{add-values, value-below, value-above, nothing-less, whole-of, roundAsU64-of}
 
 -- 0.5, in either format
 abbrev pub half : Float
@@ -40,8 +40,8 @@ half-more f n h =
     (half-exact f (n * 2 + 1) h)
 
 -- ---- what N / D, rounded, is
-pub turned : (x : Float) (n : ℕ) → n ≤ 2 ^ 64 - 1 → T (finite x) → n * (den x * 2) ≤ plus x * 2 + den x → plus x * 2 + den x < (n + 1) * (den x * 2) → n ≡ rounded x
-turned x n s p h k = let d : (plus x * 2 + den x) / (den x * 2) ≡ n = div-eq-of-lt-le (den x * 2) h k in omega (arith, rounded-of x p)
+pub turned : (x : Float) (n : ℕ) → n ≤ 2 ^ 64 - 1 → T (finite x) → n * (den x * 2) ≤ plus x * 2 + den x → plus x * 2 + den x < (n + 1) * (den x * 2) → n ≡ roundAsU64 x
+turned x n s p h k = let d : (plus x * 2 + den x) / (den x * 2) ≡ n = div-eq-of-lt-le (den x * 2) h k in omega (arith, roundAsU64-of x p)
 
 pub up-from : (n N D : ℕ) → (n * 2 + 1) * D ≤ N * 2 → (n + 1) * (D * 2) ≤ N * 2 + D
 up-from n N D h = let g = simp (add-mul, mul-assoc) at h in simp (add-mul, mul-left-comm) (omega arith)
@@ -69,13 +69,13 @@ module _ (f : Format) (x : Float) (n : ℕ) (e : n ≡ toUnsigned 64 x) (h : n *
       le-trans' (fin false 0 (pos 0)) (add f (ofInt f (pos n)) half) x
       (le-of-values (fin false 0 (pos 0)) (add f (ofInt f (pos n)) half) 0 1 (n * 2 + 1) 2 (lit< tt) (lit< tt) (refl, refl) (half-more f n h) (omega arith)) g
 
-  reached-at : T (finite x) → T (le (add f (ofInt f (pos n)) half) x) → n + 1 ≡ rounded x
+  reached-at : T (finite x) → T (le (add f (ofInt f (pos n)) half) x) → n + 1 ≡ roundAsU64 x
   reached-at p g =
       let w = whole-part x n p e narrow in
       let k : (n * 2 + 1) * den x ≤ plus x * 2 = value-below (add f (ofInt f (pos n)) half) x (n * 2 + 1) 2 (lit< tt) (half-more f n h) p (nothing-less x (reached-nonneg g)) g in
       turned x (n + 1) (omega (arith, narrow)) p (up-from n (plus x) (den x) k) (simp (add-mul, mul-left-comm) (omega (arith, w .1)))
 
-  short-at : T (finite x) → less x ≡ 0 → T (not (le (add f (ofInt f (pos n)) half) x)) → n ≡ rounded x
+  short-at : T (finite x) → less x ≡ 0 → T (not (le (add f (ofInt f (pos n)) half) x)) → n ≡ roundAsU64 x
   short-at p z g =
       let w = whole-part x n p e narrow in
       let k : plus x * 2 < (n * 2 + 1) * den x = lt-of-not-le (λ (j : (n * 2 + 1) * den x ≤ plus x * 2).
@@ -83,7 +83,7 @@ module _ (f : Format) (x : Float) (n : ℕ) (e : n ≡ toUnsigned 64 x) (h : n *
       turned x n (omega (arith, narrow)) p (omega (arith, w .0, mul-assoc n (den x) 2)) (down-from n (plus x) (den x) k)
 
 -- x reaches n + 1/2
-pub reached : (f : Format) (x : Float) (n : ℕ) → n ≡ toUnsigned 64 x → n * 2 + 1 < 2 ^ prec f → T (le (add f (ofInt f (pos n)) half) x) → n + 1 ≡ rounded x
+pub reached : (f : Format) (x : Float) (n : ℕ) → n ≡ toUnsigned 64 x → n * 2 + 1 < 2 ^ prec f → T (le (add f (ofInt f (pos n)) half) x) → n + 1 ≡ roundAsU64 x
 unfolding toUnsigned le
 reached f nan n e h g = absurd (reached-nonneg f nan n e h g)
 reached f (inf true) n e h g = absurd (reached-nonneg f (inf true) n e h g)
@@ -91,8 +91,8 @@ reached f (inf false) n e h g = absurd (omega (arith, narrow f (inf false) n e h
 reached f (fin s m k) n e h g = reached-at f (fin s m k) n e h tt g
 
 -- and does not
-pub short : (f : Format) (x : Float) (n : ℕ) → n ≡ toUnsigned 64 x → n * 2 + 1 < 2 ^ prec f → T (not (le (add f (ofInt f (pos n)) half) x)) → n ≡ rounded x
-unfolding toUnsigned rounded
+pub short : (f : Format) (x : Float) (n : ℕ) → n ≡ toUnsigned 64 x → n * 2 + 1 < 2 ^ prec f → T (not (le (add f (ofInt f (pos n)) half) x)) → n ≡ roundAsU64 x
+unfolding toUnsigned roundAsU64
 short f nan n e h g = e
 short f (inf true) n e h g = e
 short f (inf false) n e h g = absurd (omega (arith, narrow f (inf false) n e h))
@@ -100,8 +100,8 @@ short f (fin true m k) n e h g = e
 short f (fin false m k) n e h g = short-at f (fin false m k) n e h tt refl g
 
 -- ---- from 2^(prec - 1) on every value is whole
-pub large : (f : Format) (x : Float) (n : ℕ) → T (fits f x) → n ≡ toUnsigned 64 x → 2 ^ prec f ≤ n * 2 → n ≡ rounded x
-unfolding fits toUnsigned rounded
+pub large : (f : Format) (x : Float) (n : ℕ) → T (fits f x) → n ≡ toUnsigned 64 x → 2 ^ prec f ≤ n * 2 → n ≡ roundAsU64 x
+unfolding fits toUnsigned roundAsU64
 large f nan n p e h = e
 large f (inf s) n p e h = e
 large f (fin true m k) n p e h = e
@@ -126,16 +126,16 @@ limit binary64 = fin false 1 (pos 52)
 abbrev nought : Float
 nought = fin false 0 (pos 0)
 
-limit-rounded : (f : Format) → rounded (limit f) * 2 ≡ 2 ^ prec f
-unfolding rounded
-limit-rounded binary32 = refl
-limit-rounded binary64 = refl
+limit-roundAsU64 : (f : Format) → roundAsU64 (limit f) * 2 ≡ 2 ^ prec f
+unfolding roundAsU64
+limit-roundAsU64 binary32 = refl
+limit-roundAsU64 binary64 = refl
 
-pub small-rounded : (f : Format) (x : Float) → T (lt x (limit f)) → rounded x * 2 ≤ 2 ^ prec f
-small-rounded f x h = le-trans (mul-le-mul-right 2 (rounded-le x (limit f) (le-of-lt x (limit f) h))) (le-of-eq (limit-rounded f))
+pub small-roundAsU64 : (f : Format) (x : Float) → T (lt x (limit f)) → roundAsU64 x * 2 ≤ 2 ^ prec f
+small-roundAsU64 f x h = le-trans (mul-le-mul-right 2 (roundAsU64-le x (limit f) (le-of-lt x (limit f) h))) (le-of-eq (limit-roundAsU64 f))
 
-pub away-small : (f : Format) (x : Float) → T (lt nought x) → T (lt x (limit f)) → ofInt f (pos (rounded x)) ≡ halfAway f x
-unfolding rounded halfAway ofInt lt
+pub away-small : (f : Format) (x : Float) → T (lt nought x) → T (lt x (limit f)) → ofInt f (pos (roundAsU64 x)) ≡ roundFloat f x
+unfolding roundAsU64 roundFloat ofInt lt
 away-small f nan h k = absurd h
 away-small f (inf true) h k = absurd h
 away-small f (inf false) h k = absurd (none f k)
@@ -145,15 +145,15 @@ away-small f (inf false) h k = absurd (none f k)
     none binary64 t = t
 away-small f (fin true m e) h k = absurd h
 away-small f (fin false m e) h k =
-    ap (λ (z : ℕ). round f false z 1) (kept f ((m * up e * 2 + down e) / (down e * 2)) (small-rounded f (fin false m e) k))
+    ap (λ (z : ℕ). round f false z 1) (kept f ((m * up e * 2 + down e) / (down e * 2)) (small-roundAsU64 f (fin false m e) k))
   where
     kept : (f : Format) (H : ℕ) → min H (2 ^ 64 - 1) * 2 ≤ 2 ^ prec f → min H (2 ^ 64 - 1) ≡ H
     kept binary32 H h = omega arith
     kept binary64 H h = omega arith
 
 -- the mirror
-pub away-neg : (f : Format) (x : Float) → neg (halfAway f (neg x)) ≡ halfAway f x
-unfolding neg halfAway
+pub away-neg : (f : Format) (x : Float) → neg (roundFloat f (neg x)) ≡ roundFloat f x
+unfolding neg roundFloat
 away-neg f nan = refl
 away-neg f (inf true) = refl
 away-neg f (inf false) = refl
@@ -188,8 +188,8 @@ unfolding lt
 too-few binary32 m k h g = let a : 2 ≤ 2 ^ suc k = pow-mono {i = 1} {j = suc k} (suc-le-suc zero-le) in omega (arith, nltb→le (m * 1 * 1) (8388608 * 2 ^ suc k) g)
 too-few binary64 m k h g = let a : 2 ≤ 2 ^ suc k = pow-mono {i = 1} {j = suc k} (suc-le-suc zero-le) in omega (arith, nltb→le (m * 1 * 1) (4503599627370496 * 2 ^ suc k) g)
 
-pub away-large : (f : Format) (x : Float) → T (fits f x) → T (lt nought x) → T (not (lt x (limit f))) → x ≡ halfAway f x
-unfolding fits lt halfAway
+pub away-large : (f : Format) (x : Float) → T (fits f x) → T (lt nought x) → T (not (lt x (limit f))) → x ≡ roundFloat f x
+unfolding fits lt roundFloat
 away-large f nan p h k = refl
 away-large f (inf s) p h k = refl
 away-large f (fin true m e) p h k = absurd h
@@ -212,18 +212,18 @@ away-large f (fin false (suc m) (negsuc j)) p h k =
     let D = ltb (suc m * 1) (2 ^ suc (emax f) * 2 ^ suc j) in
     absurd (too-few f (suc m) j (ltb→lt (suc m) (2 ^ prec f) (and-r (eqb (suc m % 2) 1) (ltb (suc m) (2 ^ prec f)) (and-l A B (and-l (A && B) D p)))) k)
 
-pub away-large-neg : (f : Format) (x : Float) → T (fits f x) → T (lt x nought) → T (not (lt (neg x) (limit f))) → x ≡ halfAway f x
+pub away-large-neg : (f : Format) (x : Float) → T (fits f x) → T (lt x nought) → T (not (lt (neg x) (limit f))) → x ≡ roundFloat f x
 away-large-neg f x p h k = sym (neg-neg x) ∙ ap neg (away-large f (neg x) (neg-fits f x p) (neg-above x h) k) ∙ away-neg f x
 
 -- either zero, and a NaN
-pub away-zero : (f : Format) (x : Float) → T (fits f x) → T (not (lt nought x)) → T (not (lt x nought)) → x ≡ halfAway f x
-unfolding lt halfAway round
+pub away-zero : (f : Format) (x : Float) → T (fits f x) → T (not (lt nought x)) → T (not (lt x nought)) → x ≡ roundFloat f x
+unfolding lt roundFloat round
 away-zero f nan p h k = refl
 away-zero f (inf true) p h k = refl
 away-zero f (inf false) p h k = refl
-away-zero f (fin s zero e) p h k = subst (λ (d : ℤ). fin s 0 d ≡ halfAway f (fin s 0 d)) (sym (zero-exponent f s e p)) (at f s)
+away-zero f (fin s zero e) p h k = subst (λ (d : ℤ). fin s 0 d ≡ roundFloat f (fin s 0 d)) (sym (zero-exponent f s e p)) (at f s)
   where
-    at : (f : Format) (s : Bool) → fin s 0 (pos 0) ≡ halfAway f (fin s 0 (pos 0))
+    at : (f : Format) (s : Bool) → fin s 0 (pos 0) ≡ roundFloat f (fin s 0 (pos 0))
     at binary32 true = refl
     at binary32 false = refl
     at binary64 true = refl

@@ -13,7 +13,7 @@ use lib.Ieee.{Float, nan, inf, fin, binary64, up, down, round, fits}
 use lib.Ieee.Exact.{HasValue, round-exact}
 use lib.Ieee.Fits.{and-l, and-r, down-pos}
 use lib.Ieee.Positive.{num, den, positive}
-use Rattle.spec.specs.Root.{wholeRoot, offset, rootOf, root}
+use Rattle.spec.specs.Root.{wholeRoot, offset, rootOf, sqrtFloat}
 use Rattle.numeric.specs.Correct.{square, NearestRoot}
 use Rattle.numeric.proofs.Root.{Floor, square-le}
 use Rattle.numeric.proofs.Rooted.{Lead, lead, placed, root-floor, root-range, shift-is, rootOf-is, level-up}
@@ -124,8 +124,8 @@ offset-value m (negsuc i) h =
     below h = omega arith
 
 -- The theorem: the root of every value above zero, subnormal or not, is the nearest.
-pub root-nearest : (x : Float) → T (fits binary64 x) → T (positive x) → NearestRoot x (root x)
-unfolding fits root
+pub root-nearest : (x : Float) → T (fits binary64 x) → T (positive x) → NearestRoot x (sqrtFloat x)
+unfolding fits sqrtFloat
 root-nearest nan p q = absurd q
 root-nearest (inf s) p q = absurd q
 root-nearest (fin true m e) p q = absurd q

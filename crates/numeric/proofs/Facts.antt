@@ -9,7 +9,7 @@ use lib.Pow.{pow-lt}
 use lib.Ieee.{Float, nan, inf, fin, Format, binary64, up, down, neg, lt, eq, le, ofBits, isNan, fits}
 use lib.Ieee.Fits.{and-l, and-i, eq→eqb, up-pos}
 use lib.Ieee.Scale.{finite}
-use Rattle.spec.specs.Floats.{zero64, magnitude}
+use Rattle.spec.specs.Floats.{zero64, absFloat}
 use Rattle.numeric.proofs.Order.{finite-between, number-of-finite, number→not-nan, none}
 
 -- a flag, as a test
@@ -34,8 +34,8 @@ pub bounded-not-nan : (v : Float) → T (le minus-thousand v) → T (le v thousa
 bounded-not-nan v h k = number→not-nan v (number-of-finite v (bounded-finite v h k))
 
 -- ---- |x|
-pub abs-below : (x : Float) → T (lt x zero64) → neg x ≡ magnitude x
-unfolding lt neg magnitude ofBits
+pub abs-below : (x : Float) → T (lt x zero64) → neg x ≡ absFloat x
+unfolding lt neg absFloat ofBits
 abs-below nan h = absurd h
 abs-below (inf true) h = refl
 abs-below (inf false) h = absurd h
@@ -57,8 +57,8 @@ zero-exponent f s (negsuc k) h =
 no-digits : (m : ℕ) (e : ℤ) → m * up e ≤ 0 → m ≡ 0
 no-digits m e h = none m (up e) (up-pos e) h
 
-pub abs-zero : (f : Format) (x : Float) → T (fits f x) → T (eq x zero64) → zero64 ≡ magnitude x
-unfolding eq magnitude ofBits
+pub abs-zero : (f : Format) (x : Float) → T (fits f x) → T (eq x zero64) → zero64 ≡ absFloat x
+unfolding eq absFloat ofBits
 abs-zero f nan p h = absurd h
 abs-zero f (inf s) p h = absurd h
 abs-zero f (fin s m e) p h =
@@ -67,8 +67,8 @@ abs-zero f (fin s m e) p h =
     let y : e ≡ pos 0 = zero-exponent f s e (subst (λ (k : ℕ). T (fits f (fin s k e))) z p) in
     cc
 
-pub abs-above : (x : Float) → T (not (lt x zero64)) → T (not (eq x zero64)) → x ≡ magnitude x
-unfolding lt eq magnitude ofBits
+pub abs-above : (x : Float) → T (not (lt x zero64)) → T (not (eq x zero64)) → x ≡ absFloat x
+unfolding lt eq absFloat ofBits
 abs-above nan h k = refl
 abs-above (inf true) h k = absurd h
 abs-above (inf false) h k = refl

@@ -15,7 +15,7 @@ use lib.Ieee.Digits.{size-lt, size-le, size-reaches, minus-val}
 use lib.Ieee.Exact.{HasValue, odd-sign, round-exact}
 use lib.Ieee.Fits.{and-i, and-l, eq→eqb, up-pos, down-pos, round-fits}
 use Rattle.spec.specs.Floats.{zero64}
-use Rattle.spec.specs.Root.{wholeRoot, offset, shift, rootOf, root}
+use Rattle.spec.specs.Root.{wholeRoot, offset, shift, rootOf, sqrtFloat}
 use Rattle.numeric.proofs.Facts.{holds, fails}
 use Rattle.numeric.proofs.Ends.{value-unique}
 use Rattle.numeric.proofs.Root.{Floor, wholeRoot-floor, square-le}
@@ -78,15 +78,15 @@ whole-digits q k t m e =
     let a : m * 2 ^ (k + t) ≡ q * 2 ^ k = eq-of-mul-eq-mul-right d (down-pos (minus (k + t) 1074)) (m * 2 ^ (k + t)) (q * 2 ^ k) (sym (minus-val m (k + t) 1074) ∙ e) in
     eq-of-mul-eq-mul-right (2 ^ k) (pow-pos k) (m * 2 ^ t) q (mul-assoc m (2 ^ t) (2 ^ k) ∙ ap (λ (z : ℕ). m * z) (mul-comm (2 ^ t) (2 ^ k) ∙ sym (pow-add 2 k t)) ∙ a)
 
-root-digits : (m k t q : ℕ) → m * 2 ^ t ≡ suc q → suc q < 2 ^ 53 → root (fin false m (minus (k + t) 1074)) ≡ rootOf (suc q) k
-unfolding root
+root-digits : (m k t q : ℕ) → m * 2 ^ t ≡ suc q → suc q < 2 ^ 53 → sqrtFloat (fin false m (minus (k + t) 1074)) ≡ rootOf (suc q) k
+unfolding sqrtFloat
 root-digits zero k t q e h = absurd (omega (arith, zero-mul (2 ^ t), e))
 root-digits (suc m) k t q e h =
     ap (rootOf (suc m)) (offset-minus (k + t))
     ∙ sym (rootOf-shift (suc m) t k (suc-le-suc zero-le) (subst (λ (z : ℕ). z < 2 ^ 53) (sym e) h))
     ∙ ap (λ (z : ℕ). rootOf z k) e
 
-pub root-odd : (q k : ℕ) → suc q < 2 ^ 53 → root (odd 53 false (suc q) k 1074) ≡ rootOf (suc q) k
+pub root-odd : (q k : ℕ) → suc q < 2 ^ 53 → sqrtFloat (odd 53 false (suc q) k 1074) ≡ rootOf (suc q) k
 unfolding odd
 root-odd q k h =
     let t = trailingZeros 53 (suc q) in
@@ -132,40 +132,40 @@ fields x p h = go (leb (2 ^ 63) b) refl
 
 module _ (x : Float) (b : ℕ) (above : lt zero64 x ≡ true) (c : Fields x b) where
   -- no exponent: the digits as they are
-  low-root : (t : ℕ) → b % 2 ^ 52 ≡ t → b / 2 ^ 52 ≡ 0 → (0 < t) × (rootOf t 0 ≡ root x)
+  low-root : (t : ℕ) → b % 2 ^ 52 ≡ t → b / 2 ^ 52 ≡ 0 → (0 < t) × (rootOf t 0 ≡ sqrtFloat x)
   unfolding ofFields odd lt ofBits
   low-root zero e h = absurd (true≢false (sym above ∙ ap (lt zero64) (c .are ∙ ap (λ (z : ℕ). ofFields binary64 false z (b % 2 ^ 52)) h ∙ ap (λ (z : ℕ). odd 53 false z 0 1074) e)))
   low-root (suc q) e h =
       let l : suc q < 2 ^ 53 = omega (arith, e) in
-      (suc-le-suc zero-le, sym (ap root (c .are ∙ ap (λ (z : ℕ). ofFields binary64 false z (b % 2 ^ 52)) h ∙ ap (λ (z : ℕ). odd 53 false z 0 1074) e) ∙ root-odd q 0 l))
+      (suc-le-suc zero-le, sym (ap sqrtFloat (c .are ∙ ap (λ (z : ℕ). ofFields binary64 false z (b % 2 ^ 52)) h ∙ ap (λ (z : ℕ). odd 53 false z 0 1074) e) ∙ root-odd q 0 l))
 
-  pub subnormal : b / 2 ^ 52 ≡ 0 → (0 < b % 2 ^ 52) × (rootOf (b % 2 ^ 52) 0 ≡ root x)
+  pub subnormal : b / 2 ^ 52 ≡ 0 → (0 < b % 2 ^ 52) × (rootOf (b % 2 ^ 52) 0 ≡ sqrtFloat x)
   subnormal = low-root (b % 2 ^ 52) refl
 
   -- the leading digit and the digits below it
-  pub normal : (b / 2 ^ 52 ≡ 0 → ⊥) → b / 2 ^ 52 < 2047 → rootOf (b % 2 ^ 52 + 2 ^ 52) (b / 2 ^ 52 - 1) ≡ root x
+  pub normal : (b / 2 ^ 52 ≡ 0 → ⊥) → b / 2 ^ 52 < 2047 → rootOf (b % 2 ^ 52 + 2 ^ 52) (b / 2 ^ 52 - 1) ≡ sqrtFloat x
   unfolding ofFields
   normal n h = go (b / 2 ^ 52) (b % 2 ^ 52) (omega arith) n h (c .are)
     where
-      go : (e t : ℕ) → t < 2 ^ 52 → (e ≡ 0 → ⊥) → e < 2047 → x ≡ ofFields binary64 false e t → rootOf (t + 2 ^ 52) (e - 1) ≡ root x
+      go : (e t : ℕ) → t < 2 ^ 52 → (e ≡ 0 → ⊥) → e < 2047 → x ≡ ofFields binary64 false e t → rootOf (t + 2 ^ 52) (e - 1) ≡ sqrtFloat x
       go zero t l n h is = absurd (n refl)
       go (suc e) t l n h is =
           let off : eqb (suc e) 2047 ≡ false = ne-eqb (suc e) 2047 (λ (k : suc e ≡ 2047). omega (arith, k)) in
           let q = 2 ^ 52 + t - 1 in
           let one : 2 ^ 52 + t ≡ suc q = omega (arith) in
-          sym (ap root (is ∙ ap (λ (s : Bool). cond s (cond (eqb t 0) (inf false) nan) (odd 53 false (2 ^ 52 + t) e 1074)) off ∙ ap (λ (z : ℕ). odd 53 false z e 1074) one)
+          sym (ap sqrtFloat (is ∙ ap (λ (s : Bool). cond s (cond (eqb t 0) (inf false) nan) (odd 53 false (2 ^ 52 + t) e 1074)) off ∙ ap (λ (z : ℕ). odd 53 false z e 1074) one)
           ∙ root-odd q e (omega arith)
           ∙ ap (λ (z : ℕ). rootOf z e) (let g : suc q ≡ t + 2 ^ 52 = omega arith in g) ∙ ap (rootOf (t + 2 ^ 52)) (let g : e ≡ suc e - 1 = omega arith in g))
 
   -- the infinity
-  pub unbounded : 2047 ≤ b / 2 ^ 52 → x ≡ root x
-  unfolding ofFields root lt ofBits
+  pub unbounded : 2047 ≤ b / 2 ^ 52 → x ≡ sqrtFloat x
+  unfolding ofFields sqrtFloat lt ofBits
   unbounded h =
       let e : b / 2 ^ 52 ≡ 2047 = omega (arith, c .short) in
       go (eqb (b % 2 ^ 52) 0) (c .are ∙ ap (λ (z : ℕ). ofFields binary64 false z (b % 2 ^ 52)) e)
     where
-      go : (s : Bool) → x ≡ cond s (inf false) nan → x ≡ root x
-      go true is = is ∙ sym (ap root is)
+      go : (s : Bool) → x ≡ cond s (inf false) nan → x ≡ sqrtFloat x
+      go true is = is ∙ sym (ap sqrtFloat is)
       go false is = absurd (true≢false (sym above ∙ ap (lt zero64) is))
 
 -- ---- the other operands
@@ -175,8 +175,8 @@ not-nan nan h = absurd (true≢false (sym h))
 not-nan (inf s) h = tt
 not-nan (fin s m e) h = tt
 
-pub zero-root : (x : Float) → T (fits binary64 x) → eq x zero64 ≡ true → x ≡ root x
-unfolding root eq ofBits
+pub zero-root : (x : Float) → T (fits binary64 x) → eq x zero64 ≡ true → x ≡ sqrtFloat x
+unfolding sqrtFloat eq ofBits
 zero-root nan p h = refl
 zero-root (inf true) p h = absurd (true≢false (sym h))
 zero-root (inf false) p h = refl
@@ -185,8 +185,8 @@ zero-root (fin s (suc m) e) p h =
     let a = eqb→eq (suc m * up e * 1) (0 * down e) (and-l (eqb (suc m * up e * 1) (0 * down e)) (Bool·beq s false || eqb (suc m * up e * 1) 0) (holds h)) in
     absurd (omega (arith, a, mul-pos {m = suc m} {n = up e} (suc-le-suc zero-le) (up-pos e)))
 
-pub other-root : (x : Float) → lt zero64 x ≡ false → eq x zero64 ≡ false → nan ≡ root x
-unfolding root eq lt ofBits
+pub other-root : (x : Float) → lt zero64 x ≡ false → eq x zero64 ≡ false → nan ≡ sqrtFloat x
+unfolding sqrtFloat eq lt ofBits
 other-root nan p h = refl
 other-root (inf true) p h = refl
 other-root (inf false) p h = absurd (true≢false p)

@@ -20,7 +20,7 @@ use lib.Ieee.Fits.{round-is, round-fits}
 use lib.Ieee.Nearest.{closest, closest-same, nearest-ge}
 use lib.Ieee.Positive.{den, den-pos}
 use lib.Ieee.Scale.{finite}
-use Rattle.spec.specs.Floats.{zero64, half64, ofCount, held, rounded}
+use Rattle.spec.specs.Floats.{zero64, half64, ofCount, clampFloat, roundAsU64}
 use Rattle.spec.specs.Value.{full16}
 use Rattle.numeric.proofs.Order.{plus, less, le→cross, finite-between, le-of-not-lt, lt-not-ge, number-of-finite, le-right, le-trans as le-trans'}
 use Rattle.numeric.proofs.Picks.{clamped-lo, clamped-hi, toUnsigned-le}
@@ -226,7 +226,7 @@ module _ (x r : Float) (c : Near x r) where
   unfolding ofBits
   middle-value = subst (λ (z : Float). HasValue (add binary64 z half64) false (c .whole * 2 + 1) 2) (sym (c .is)) (half-more binary64 (c .whole) (omega (arith, c .small)))
 
-  pub reached : T (le (add binary64 r half64) x) → c .whole + 1 ≡ rounded x
+  pub reached : T (le (add binary64 r half64) x) → c .whole + 1 ≡ roundAsU64 x
   reached h =
       let n = c .whole in
       let g : (n * 2 + 1) * den x ≤ plus x * 2 = value-below (add binary64 r half64) x (n * 2 + 1) 2 (lit< tt) middle-value (c .finite-x) (c .nonneg-x) h in
@@ -234,7 +234,7 @@ module _ (x r : Float) (c : Near x r) where
       (up-from n (plus x) (den x) g)
       (under-from n (plus x) (den x) (den-pos x) (c .under))
 
-  pub short : T (not (le (add binary64 r half64) x)) → c .whole ≡ rounded x
+  pub short : T (not (le (add binary64 r half64) x)) → c .whole ≡ roundAsU64 x
   short h =
       let n = c .whole in
       let g : plus x * 2 < (n * 2 + 1) * den x = lt-of-not-le (λ (j : (n * 2 + 1) * den x ≤ plus x * 2).
@@ -242,8 +242,8 @@ module _ (x r : Float) (c : Near x r) where
       turned x n (omega (arith, c .small)) (c .finite-x) (above-from n (plus x) (den x) (c .above)) (down-from n (plus x) (den x) g)
 
 -- ---- a value held to 0..full, full being at most 65535.0, is such an x, and cuts to at most what full cuts to
-pub held-small : (full v : Float) → T (le zero64 full) → T (le full full16) → T (le zero64 (held zero64 full v)) × T (le (held zero64 full v) full16)
-held-small full v h k = (clamped-lo v zero64 full h, le-trans' (held zero64 full v) full full16 (clamped-hi v zero64 full (le-right zero64 full h)) k)
+pub clampFloat-small : (full v : Float) → T (le zero64 full) → T (le full full16) → T (le zero64 (clampFloat zero64 full v)) × T (le (clampFloat zero64 full v) full16)
+clampFloat-small full v h k = (clamped-lo v zero64 full h, le-trans' (clampFloat zero64 full v) full full16 (clamped-hi v zero64 full (le-right zero64 full h)) k)
 
-pub held-cut : (full v : Float) → T (le zero64 full) → toUnsigned 64 (held zero64 full v) ≤ toUnsigned 64 full
-held-cut full v h = toUnsigned-le 64 (held zero64 full v) full (clamped-hi v zero64 full (le-right zero64 full h))
+pub clampFloat-cut : (full v : Float) → T (le zero64 full) → toUnsigned 64 (clampFloat zero64 full v) ≤ toUnsigned 64 full
+clampFloat-cut full v h = toUnsigned-le 64 (clampFloat zero64 full v) full (clamped-hi v zero64 full (le-right zero64 full h))

@@ -14,7 +14,7 @@ use lib.Ieee.Exact.{HasValue}
 use lib.Ieee.Fits.{down-pos}
 use lib.Ieee.Positive.{den, den-pos}
 use lib.Ieee.Scale.{round-same, finite}
-use Rattle.spec.specs.Floats.{ofCount, rounded}
+use Rattle.spec.specs.Floats.{ofCount, roundAsU64}
 use Rattle.numeric.proofs.Order.{plus, less, le→cross, cross→le}
 
 -- ---- what a value says
@@ -135,12 +135,12 @@ whole-of w (inf s) p = absurd p
 whole-of w (fin true m e) p = let z : 0 / down e ≡ 0 = div-eq-of-lt (down-pos e) in omega arith
 whole-of w (fin false m e) p = refl
 
-pub rounded-of : (x : Float) → T (finite x) → rounded x ≡ min ((plus x * 2 + den x) / (den x * 2)) (2 ^ 64 - 1)
-unfolding rounded
-rounded-of nan p = absurd p
-rounded-of (inf s) p = absurd p
-rounded-of (fin true m e) p = let d = down-pos e in let z : (0 * 2 + down e) / (down e * 2) ≡ 0 = div-eq-of-lt (omega arith) in omega arith
-rounded-of (fin false m e) p = refl
+pub roundAsU64-of : (x : Float) → T (finite x) → roundAsU64 x ≡ min ((plus x * 2 + den x) / (den x * 2)) (2 ^ 64 - 1)
+unfolding roundAsU64
+roundAsU64-of nan p = absurd p
+roundAsU64-of (inf s) p = absurd p
+roundAsU64-of (fin true m e) p = let d = down-pos e in let z : (0 * 2 + down e) / (down e * 2) ≡ 0 = div-eq-of-lt (omega arith) in omega arith
+roundAsU64-of (fin false m e) p = refl
 
 -- what is not below zero has nothing below zero
 pub nothing-less : (x : Float) → T (le (fin false 0 (pos 0)) x) → less x ≡ 0

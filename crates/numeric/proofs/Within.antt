@@ -14,7 +14,7 @@ use lib.Ieee.Fits.{and-l, and-r, down-pos}
 use lib.Ieee.Order.{le-of-values}
 use lib.Ieee.Positive.{num, den, den-pos, positive}
 use lib.Ieee.Scale.{finite}
-use Rattle.spec.specs.Floats.{ofCount, larger, smaller, held, magnitude}
+use Rattle.spec.specs.Floats.{ofCount, maxFloat, minFloat, clampFloat, absFloat}
 use Rattle.numeric.proofs.Order.{plus, less, le→cross, cross→le, finite-between, le-of-lt, le-trans as le-trans'}
 use Rattle.numeric.proofs.Round.{Rounds, rounds-le, round-neg, neg-anti, neg-neg}
 use Rattle.numeric.proofs.Ops.{add-rounds, div-rounds, neg-finite, num-pos}
@@ -48,12 +48,12 @@ neg-within (inf s) w = absurd (w .is-finite)
 neg-within (fin true m e) w = record { is-finite = tt; above = w .under; under = w .above }
 neg-within (fin false m e) w = record { is-finite = tt; above = w .under; under = w .above }
 
-pub magnitude-within : {n : ℕ} (x : Float) → Within n x → Within n (magnitude x)
-unfolding magnitude
-magnitude-within nan w = w
-magnitude-within (inf s) w = absurd (w .is-finite)
-magnitude-within (fin true m e) w = record { is-finite = tt; above = w .under; under = w .above }
-magnitude-within (fin false m e) w = w
+pub absFloat-within : {n : ℕ} (x : Float) → Within n x → Within n (absFloat x)
+unfolding absFloat
+absFloat-within nan w = w
+absFloat-within (inf s) w = absurd (w .is-finite)
+absFloat-within (fin true m e) w = record { is-finite = tt; above = w .under; under = w .above }
+absFloat-within (fin false m e) w = w
 
 turned : (n : ℕ) (x : Float) → plus (neg x) ≤ n * den (neg x) → less x ≤ n * den x
 unfolding neg
@@ -194,22 +194,22 @@ whole-within f n l =
     record { is-finite = value-finite N n 1 v; above = le-of-eq (sym (mul-one (plus N)) ∙ value-plus N n 1 v); under = le-trans (le-of-eq (value-less N n 1 v)) zero-le }
 
 -- ---- picks: of two, the bound of both
-pub larger-within : {n : ℕ} (x y : Float) → Within n x → Within n y → Within n (larger x y)
-larger-within {n} x y v w = either (Within n) (lt y x) x y v w
+pub maxFloat-within : {n : ℕ} (x y : Float) → Within n x → Within n y → Within n (maxFloat x y)
+maxFloat-within {n} x y v w = either (Within n) (lt y x) x y v w
 
-pub smaller-within : {n : ℕ} (x y : Float) → Within n x → Within n y → Within n (smaller x y)
-smaller-within {n} x y v w = either (Within n) (lt x y) x y v w
+pub minFloat-within : {n : ℕ} (x y : Float) → Within n x → Within n y → Within n (minFloat x y)
+minFloat-within {n} x y v w = either (Within n) (lt x y) x y v w
 
 pub within-between : (n : ℕ) → n ≤ 2 ^ 53 → (lo x hi : Float) → Within n lo → Within n hi → T (le lo x) → T (le x hi) → Within n x
 within-between n l lo x hi v w h k = le-within binary64 n l x (le-trans' (neg (ofCount n)) lo x (within-ge binary64 n l lo v) h) (le-trans' x hi (ofCount n) k (within-le binary64 n l hi w))
 
 -- whatever x is, a NaN too
-pub held-within : (n : ℕ) → n ≤ 2 ^ 53 → (lo hi x : Float) → Within n lo → Within n hi → Within n (held lo hi x)
-held-within n l lo hi x v w = outer (lt lo x) (le-of-lt lo x)
+pub clampFloat-within : (n : ℕ) → n ≤ 2 ^ 53 → (lo hi x : Float) → Within n lo → Within n hi → Within n (clampFloat lo hi x)
+clampFloat-within n l lo hi x v w = outer (lt lo x) (le-of-lt lo x)
   where
     inner : (z : Float) → (b : Bool) → (T b → Within n z) → Within n (cond b z hi)
     inner z true h = h tt
     inner z false h = w
-    outer : (b : Bool) → (T b → T (le lo x)) → Within n (smaller (cond b x lo) hi)
+    outer : (b : Bool) → (T b → T (le lo x)) → Within n (minFloat (cond b x lo) hi)
     outer true h = inner x (lt x hi) (λ (g : T (lt x hi)). within-between n l lo x hi v w (h tt) (le-of-lt x hi g))
     outer false h = inner lo (lt lo hi) (λ (g : T (lt lo hi)). v)

@@ -3,7 +3,7 @@ use Prim.Native.Nat.{ℕ, _+_, _*_, _/_}
 use lib.Ieee.{Float, nan, inf, fin, Format, up, down, round}
 
 -- to the nearest whole number, from halfway to the larger, with x's sign
-unfoldable pub halfAway : Format → Float → Float
-halfAway f nan = nan
-halfAway f (inf s) = inf s
-halfAway f (fin s m e) = round f s ((m * up e * 2 + down e) / (down e * 2)) 1
+unfoldable pub roundFloat : Format → Float → Float
+roundFloat f nan = nan
+roundFloat f (inf s) = inf s
+roundFloat f (fin s m e) = round f s ((m * up e * 2 + down e) / (down e * 2)) 1

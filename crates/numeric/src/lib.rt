@@ -3,35 +3,35 @@ ghost use mathlib.Core.Path.{_≡_};
 ghost use Prim.Native.Nat.{_+_, _*_, _/_, _%_, _^_, _≤_, _<_};
 ghost use lib.Dec.{T};
 ghost use lib.Ieee.{binary32, binary64, toUnsigned, ofBits, le};
-ghost use Rattle.spec.specs.Floats.{zero64, larger, smaller, held, magnitude, rounded};
+ghost use Rattle.spec.specs.Floats.{zero64, maxFloat, minFloat, clampFloat, absFloat, roundAsU64};
 ghost use Rattle.spec.specs.Value.{full16};
-ghost use Rattle.numeric.specs.Round.{halfAway};
-ghost use Rattle.spec.specs.Root.{wholeRoot, rootOf, root};
+ghost use Rattle.numeric.specs.Round.{roundFloat};
+ghost use Rattle.spec.specs.Root.{wholeRoot, rootOf, sqrtFloat};
 
 // `f64::max`: a NaN in the first place loses, and of two equals the second is given.
 pub fn max_f64(a: f64, b: f64) -> f64
-    ensures { λ r. ⌜ r ≡ larger a b ⌝ }
+    ensures { λ r. ⌜ r ≡ maxFloat a b ⌝ }
 {
     if a > b { a } else { b }
 }
 
 // `f64::min`, likewise.
 pub fn min_f64(a: f64, b: f64) -> f64
-    ensures { λ r. ⌜ r ≡ smaller a b ⌝ }
+    ensures { λ r. ⌜ r ≡ minFloat a b ⌝ }
 {
     if a < b { a } else { b }
 }
 
 // x held to low..high.
 pub fn clamp_f64(x: f64, low: f64, high: f64) -> f64
-    ensures { λ r. ⌜ r ≡ held low high x ⌝ }
+    ensures { λ r. ⌜ r ≡ clampFloat low high x ⌝ }
 {
     min_f64(max_f64(x, low), high)
 }
 
 // `f64::abs`.
 pub fn abs_f64(x: f64) -> f64
-    ensures { λ r. ⌜ r ≡ magnitude x ⌝ }
+    ensures { λ r. ⌜ r ≡ absFloat x ⌝ }
 {
     if x < 0.0 {
         -x
@@ -44,7 +44,7 @@ pub fn abs_f64(x: f64) -> f64
 
 // `f32::abs`.
 pub fn abs_f32(x: f32) -> f32
-    ensures { λ r. ⌜ r ≡ magnitude x ⌝ }
+    ensures { λ r. ⌜ r ≡ absFloat x ⌝ }
 {
     if x < 0.0f32 {
         -x
@@ -83,7 +83,7 @@ pub fn f32_as_u64(x: f32) -> u64
 
 // `f64::round` and then `as u64`: half away from zero. From 2^52 on every f64 is whole.
 pub fn round_f64_as_u64(x: f64) -> u64
-    ensures { λ r. ⌜ r ≡ rounded x ⌝ }
+    ensures { λ r. ⌜ r ≡ roundAsU64 x ⌝ }
 {
     let n = f64_as_u64(x);
     if n < 4503599627370496 {
@@ -96,7 +96,7 @@ pub fn round_f64_as_u64(x: f64) -> u64
 
 // `f32::round` and then `as u64`, likewise. From 2^23 on every f32 is whole.
 pub fn round_f32_as_u64(x: f32) -> u64
-    ensures { λ r. ⌜ r ≡ rounded x ⌝ }
+    ensures { λ r. ⌜ r ≡ roundAsU64 x ⌝ }
 {
     let n = f32_as_u64(x);
     if n < 8388608 {
@@ -109,7 +109,7 @@ pub fn round_f32_as_u64(x: f32) -> u64
 
 // `f64::round`: half away from zero. A zero keeps its sign, and from 2^52 on every f64 is whole.
 pub fn round_f64(x: f64) -> f64
-    ensures { λ r. ⌜ r ≡ halfAway binary64 x ⌝ }
+    ensures { λ r. ⌜ r ≡ roundFloat binary64 x ⌝ }
 {
     if x > 0.0 {
         if x < 4503599627370496.0 {
@@ -128,7 +128,7 @@ pub fn round_f64(x: f64) -> f64
 
 // `f32::round`: likewise. From 2^23 on every f32 is whole.
 pub fn round_f32(x: f32) -> f32
-    ensures { λ r. ⌜ r ≡ halfAway binary32 x ⌝ }
+    ensures { λ r. ⌜ r ≡ roundFloat binary32 x ⌝ }
 {
     if x > 0.0 {
         if x < 8388608.0 {
@@ -182,7 +182,7 @@ pub fn trunc_small(x: f64) -> u32
 // `round` for an x from 0.0 to 65535.0: half away from zero.
 pub fn round_small(x: f64) -> u32
     requires { ⌜ T (le zero64 x) ⌝ ∗ ⌜ T (le x full16) ⌝ }
-    ensures { λ r. ⌜ r ≡ rounded x ⌝ }
+    ensures { λ r. ⌜ r ≡ roundAsU64 x ⌝ }
 {
     let nearest = x + 4503599627370496.0 - 4503599627370496.0;
     let n = nearest as i32 as u32;
@@ -238,7 +238,7 @@ fn root_of(q: u64, k: u64) -> f64
 
 // `f64::sqrt`: correctly rounded, the zeros and the infinity their own roots, the NaN below zero.
 pub fn sqrt_f64(x: f64) -> f64
-    ensures { λ r. ⌜ r ≡ root x ⌝ }
+    ensures { λ r. ⌜ r ≡ sqrtFloat x ⌝ }
 {
     if x > 0.0 {
         let bits = f64::to_bits(x);

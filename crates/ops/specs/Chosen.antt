@@ -2,11 +2,11 @@
 use lib.Ieee.{Float}
 use Rattle.types.specs.declared.PolarizationOperation.{PolarizationOperation}
 use Rattle.types.specs.declared.PolarizationOperation.the-variants.{Sum, Diff, Ratio, NDiff, LogRatio}
-use Rattle.spec.specs.Ops.{sumOp, differenceOp, ratioOp, normalisedOp, logRatioOp}
+use Rattle.spec.specs.Ops.{sumOp, differenceOp, ratioOp, normalizedDiffOp, logRatioOp}
 
-abbrev pub opOf : PolarizationOperation → Float → Float → Float
-opOf Sum = sumOp
-opOf Diff = differenceOp
-opOf Ratio = ratioOp
-opOf NDiff = normalisedOp
-opOf LogRatio = logRatioOp
+abbrev pub operate : PolarizationOperation → Float → Float → Float
+operate Sum = sumOp
+operate Diff = differenceOp
+operate Ratio = ratioOp
+operate NDiff = normalizedDiffOp
+operate LogRatio = logRatioOp

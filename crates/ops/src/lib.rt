@@ -5,14 +5,14 @@ ghost use mathlib.Core.List.{[], _∷_, zipWith};
 ghost use lib.ListN.{length};
 ghost use Rattle.spec.specs.Answer.{firstOf, number, replyNumber, after};
 ghost use Rattle.spec.specs.Refusals.{tooLong, unlike};
-ghost use Rattle.spec.specs.Ops.{sumOp, differenceOp, guarded, ratioOp, logRatioOp, normalisedOp, opCall};
-ghost use Rattle.ops.specs.Chosen.{opOf};
+ghost use Rattle.spec.specs.Ops.{sumOp, differenceOp, guardedRatio, ratioOp, logRatioOp, normalizedDiffOp, operateArrays};
+ghost use Rattle.ops.specs.Chosen.{operate};
 use types::PolarizationOperation;
 use types::Reply;
 
 // a over b, or 0 unless the size of b exceeds 1e-10.
 fn guarded_ratio(a: f32, b: f32) -> f32
-    ensures { λ r. ⌜ r ≡ guarded a b ⌝ }
+    ensures { λ r. ⌜ r ≡ guardedRatio a b ⌝ }
 {
     if numeric::abs_f32(b) > 1e-10 {
         a / b
@@ -23,7 +23,7 @@ fn guarded_ratio(a: f32, b: f32) -> f32
 
 // The operation on one value of each list.
 fn operate(operation: PolarizationOperation, a: f32, b: f32) -> f32
-    ensures { λ r. ⌜ r ≡ opOf operation a b ⌝ }
+    ensures { λ r. ⌜ r ≡ operate operation a b ⌝ }
 {
     match operation {
         PolarizationOperation::Sum => a + b,
@@ -37,7 +37,7 @@ fn operate(operation: PolarizationOperation, a: f32, b: f32) -> f32
 // The operation on lists of one length.
 fn fill(operation: PolarizationOperation, a: &[f32], b: &[f32], out: &mut [f32])
     requires { ⌜ (length (now out) ≡ length (now a)) × (length (now b) ≡ length (now a)) ⌝ }
-    ensures { λ _. ⌜ now (out .exit) ≡ zipWith (opOf operation) (now (a .entry)) (now (b .entry)) ⌝ }
+    ensures { λ _. ⌜ now (out .exit) ≡ zipWith (operate operation) (now (a .entry)) (now (b .entry)) ⌝ }
 {
     let mut i = 0;
     while i < out.len() {
@@ -63,9 +63,9 @@ fn refusal(a: usize, b: usize, out: usize) -> u8
 }
 
 // The operation on whole lists.
-pub fn apply(operation: PolarizationOperation, a: &[f32], b: &[f32], out: &mut [f32]) -> Reply
-    ensures reply { λ r. ⌜ replyNumber r ≡ number (opCall (opOf operation) (now (a .entry)) (now (b .entry)) (length (now (out .entry)))) ⌝ }
-    ensures values { λ _. ⌜ now (out .exit) ≡ after (λ l. l) (opCall (opOf operation) (now (a .entry)) (now (b .entry)) (length (now (out .entry)))) (now (out .entry)) ⌝ }
+pub fn operate_arrays(operation: PolarizationOperation, a: &[f32], b: &[f32], out: &mut [f32]) -> Reply
+    ensures reply { λ r. ⌜ replyNumber r ≡ number (operateArrays (operate operation) (now (a .entry)) (now (b .entry)) (length (now (out .entry)))) ⌝ }
+    ensures values { λ _. ⌜ now (out .exit) ≡ after (λ l. l) (operateArrays (operate operation) (now (a .entry)) (now (b .entry)) (length (now (out .entry)))) (now (out .entry)) ⌝ }
 {
     let refused = refusal(a.len(), b.len(), out.len());
     if refused > 0 {
@@ -77,40 +77,40 @@ pub fn apply(operation: PolarizationOperation, a: &[f32], b: &[f32], out: &mut [
 
 // a + b.
 pub fn sum_arrays(a: &[f32], b: &[f32], out: &mut [f32]) -> Reply
-    ensures reply { λ r. ⌜ replyNumber r ≡ number (opCall sumOp (now (a .entry)) (now (b .entry)) (length (now (out .entry)))) ⌝ }
-    ensures values { λ _. ⌜ now (out .exit) ≡ after (λ l. l) (opCall sumOp (now (a .entry)) (now (b .entry)) (length (now (out .entry)))) (now (out .entry)) ⌝ }
+    ensures reply { λ r. ⌜ replyNumber r ≡ number (operateArrays sumOp (now (a .entry)) (now (b .entry)) (length (now (out .entry)))) ⌝ }
+    ensures values { λ _. ⌜ now (out .exit) ≡ after (λ l. l) (operateArrays sumOp (now (a .entry)) (now (b .entry)) (length (now (out .entry)))) (now (out .entry)) ⌝ }
 {
-    apply(PolarizationOperation::Sum, a, b, out)
+    operate_arrays(PolarizationOperation::Sum, a, b, out)
 }
 
 // a - b.
 pub fn difference_arrays(a: &[f32], b: &[f32], out: &mut [f32]) -> Reply
-    ensures reply { λ r. ⌜ replyNumber r ≡ number (opCall differenceOp (now (a .entry)) (now (b .entry)) (length (now (out .entry)))) ⌝ }
-    ensures values { λ _. ⌜ now (out .exit) ≡ after (λ l. l) (opCall differenceOp (now (a .entry)) (now (b .entry)) (length (now (out .entry)))) (now (out .entry)) ⌝ }
+    ensures reply { λ r. ⌜ replyNumber r ≡ number (operateArrays differenceOp (now (a .entry)) (now (b .entry)) (length (now (out .entry)))) ⌝ }
+    ensures values { λ _. ⌜ now (out .exit) ≡ after (λ l. l) (operateArrays differenceOp (now (a .entry)) (now (b .entry)) (length (now (out .entry)))) (now (out .entry)) ⌝ }
 {
-    apply(PolarizationOperation::Diff, a, b, out)
+    operate_arrays(PolarizationOperation::Diff, a, b, out)
 }
 
 // a / b, or 0 at a small divisor.
 pub fn ratio_arrays(a: &[f32], b: &[f32], out: &mut [f32]) -> Reply
-    ensures reply { λ r. ⌜ replyNumber r ≡ number (opCall ratioOp (now (a .entry)) (now (b .entry)) (length (now (out .entry)))) ⌝ }
-    ensures values { λ _. ⌜ now (out .exit) ≡ after (λ l. l) (opCall ratioOp (now (a .entry)) (now (b .entry)) (length (now (out .entry)))) (now (out .entry)) ⌝ }
+    ensures reply { λ r. ⌜ replyNumber r ≡ number (operateArrays ratioOp (now (a .entry)) (now (b .entry)) (length (now (out .entry)))) ⌝ }
+    ensures values { λ _. ⌜ now (out .exit) ≡ after (λ l. l) (operateArrays ratioOp (now (a .entry)) (now (b .entry)) (length (now (out .entry)))) (now (out .entry)) ⌝ }
 {
-    apply(PolarizationOperation::Ratio, a, b, out)
+    operate_arrays(PolarizationOperation::Ratio, a, b, out)
 }
 
 // (a - b) / (a + b), or 0 at a small divisor.
 pub fn normalized_diff_arrays(a: &[f32], b: &[f32], out: &mut [f32]) -> Reply
-    ensures reply { λ r. ⌜ replyNumber r ≡ number (opCall normalisedOp (now (a .entry)) (now (b .entry)) (length (now (out .entry)))) ⌝ }
-    ensures values { λ _. ⌜ now (out .exit) ≡ after (λ l. l) (opCall normalisedOp (now (a .entry)) (now (b .entry)) (length (now (out .entry)))) (now (out .entry)) ⌝ }
+    ensures reply { λ r. ⌜ replyNumber r ≡ number (operateArrays normalizedDiffOp (now (a .entry)) (now (b .entry)) (length (now (out .entry)))) ⌝ }
+    ensures values { λ _. ⌜ now (out .exit) ≡ after (λ l. l) (operateArrays normalizedDiffOp (now (a .entry)) (now (b .entry)) (length (now (out .entry)))) (now (out .entry)) ⌝ }
 {
-    apply(PolarizationOperation::NDiff, a, b, out)
+    operate_arrays(PolarizationOperation::NDiff, a, b, out)
 }
 
 // The same as the ratio.
 pub fn log_ratio_arrays(a: &[f32], b: &[f32], out: &mut [f32]) -> Reply
-    ensures reply { λ r. ⌜ replyNumber r ≡ number (opCall logRatioOp (now (a .entry)) (now (b .entry)) (length (now (out .entry)))) ⌝ }
-    ensures values { λ _. ⌜ now (out .exit) ≡ after (λ l. l) (opCall logRatioOp (now (a .entry)) (now (b .entry)) (length (now (out .entry)))) (now (out .entry)) ⌝ }
+    ensures reply { λ r. ⌜ replyNumber r ≡ number (operateArrays logRatioOp (now (a .entry)) (now (b .entry)) (length (now (out .entry)))) ⌝ }
+    ensures values { λ _. ⌜ now (out .exit) ≡ after (λ l. l) (operateArrays logRatioOp (now (a .entry)) (now (b .entry)) (length (now (out .entry)))) (now (out .entry)) ⌝ }
 {
-    apply(PolarizationOperation::LogRatio, a, b, out)
+    operate_arrays(PolarizationOperation::LogRatio, a, b, out)
 }

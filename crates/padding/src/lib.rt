@@ -6,7 +6,7 @@ ghost use Prim.Native.Nat.{_+_, _*_, _≤_, _<_, max};
 ghost use lib.ListN.{length, replicate};
 ghost use lib.Seq.{paste};
 ghost use Rattle.spec.specs.Answer.{firstOf, number, replyNumber, after};
-ghost use Rattle.spec.specs.Refusals.{tooWide, unlike};
+ghost use Rattle.spec.specs.Refusals.{sidesRefused, unlike};
 ghost use Rattle.spec.specs.Padding as Padding;
 ghost use Rattle.padding.specs.Offsets.{startOf};
 use types::Reply;
@@ -20,7 +20,7 @@ fn larger_side(rows: usize, cols: usize) -> usize
 
 // The number that refuses the sides and the two lengths, or 0.
 fn refusal(rows: usize, cols: usize, pixels: usize, padded: usize) -> u8
-    ensures { λ r. ⌜ r ≡ firstOf 1 (tooWide rows cols ∷ (unlike pixels (rows * cols) || unlike padded (max rows cols * max rows cols)) ∷ []) ⌝ }
+    ensures { λ r. ⌜ r ≡ firstOf 1 (sidesRefused rows cols ∷ (unlike pixels (rows * cols) || unlike padded (max rows cols * max rows cols)) ∷ []) ⌝ }
 {
     if rows > 4096 {
         return 1;
@@ -93,8 +93,8 @@ pub fn add_padding_to_square_u8(
     u8_data: &[u8],
     padded: &mut [u8],
 ) -> Reply
-    ensures reply { λ r. ⌜ replyNumber r ≡ number (Padding.paddingCall rows cols (now («u8_data» .entry)) (length (now (padded .entry)))) ⌝ }
-    ensures square { λ _. ⌜ now (padded .exit) ≡ after (λ l. l) (Padding.paddingCall rows cols (now («u8_data» .entry)) (length (now (padded .entry)))) (now (padded .entry)) ⌝ }
+    ensures reply { λ r. ⌜ replyNumber r ≡ number (Padding.addPaddingToSquare rows cols (now («u8_data» .entry)) (length (now (padded .entry)))) ⌝ }
+    ensures square { λ _. ⌜ now (padded .exit) ≡ after (λ l. l) (Padding.addPaddingToSquare rows cols (now («u8_data» .entry)) (length (now (padded .entry)))) (now (padded .entry)) ⌝ }
 {
     let refused = refusal(rows, cols, u8_data.len(), padded.len());
     if refused > 0 {
@@ -149,8 +149,8 @@ pub fn add_padding_to_square_u16(
     u16_data: &[u16],
     padded: &mut [u16],
 ) -> Reply
-    ensures reply { λ r. ⌜ replyNumber r ≡ number (Padding.paddingCall rows cols (now («u16_data» .entry)) (length (now (padded .entry)))) ⌝ }
-    ensures square { λ _. ⌜ now (padded .exit) ≡ after (λ l. l) (Padding.paddingCall rows cols (now («u16_data» .entry)) (length (now (padded .entry)))) (now (padded .entry)) ⌝ }
+    ensures reply { λ r. ⌜ replyNumber r ≡ number (Padding.addPaddingToSquare rows cols (now («u16_data» .entry)) (length (now (padded .entry)))) ⌝ }
+    ensures square { λ _. ⌜ now (padded .exit) ≡ after (λ l. l) (Padding.addPaddingToSquare rows cols (now («u16_data» .entry)) (length (now (padded .entry)))) (now (padded .entry)) ⌝ }
 {
     let refused = refusal(rows, cols, u16_data.len(), padded.len());
     if refused > 0 {

@@ -10,14 +10,14 @@ use lib.Ieee.{Float}
 use Rattle.types.specs.declared.AutoscaleStrategy.{AutoscaleStrategy}
 use Rattle.spec.specs.Answer.{firstOf}
 use Rattle.spec.specs.Picture.{Lent}
-use Rattle.spec.specs.Refusals.{tooWide, notNamed, unlike, workUnlike}
+use Rattle.spec.specs.Refusals.{sidesRefused, lengthsRefused, unlike, workRefused}
 use Rattle.spec.specs.Strategies.{isClahe}
 use Rattle.clahe.specs.Band.{Raster}
 use Rattle.raster.proofs.Bands.{none-applies, or-false, sides-accepted, lengths-accepted, named}
 use Rattle.pipeline.specs.Ready.{Ready}
-use Rattle.pipeline.specs.Windows.{lengthsUnlike}
+use Rattle.pipeline.specs.Windows.{pictureLengthsRefused}
 
-pub sized : (rows cols : ℕ) (m : List ℕ) (d : List Float) → tooWide rows cols ≡ false → notNamed rows cols m d ≡ false → Raster rows cols m d
+pub sized : (rows cols : ℕ) (m : List ℕ) (d : List Float) → sidesRefused rows cols ≡ false → lengthsRefused rows cols m d ≡ false → Raster rows cols m d
 sized rows cols m d s n =
     let a = sides-accepted rows cols s in
     let b = lengths-accepted rows cols m d n in
@@ -28,19 +28,19 @@ pub passable : {rows cols : ℕ} {m : List ℕ} {d : List Float} → Raster rows
 passable s = (s .marks-length ∙ sym (s .db-length), omega (arith, s .db-length, mul-le-mul (s .tall) (s .wide)))
 
 -- the work of Clahe
-pub work-length : (strategy : AutoscaleStrategy) (work : ℕ) → workUnlike strategy work ≡ false → isClahe strategy ≡ true → work ≡ 16384
-unfolding workUnlike
+pub work-length : (strategy : AutoscaleStrategy) (work : ℕ) → workRefused strategy work ≡ false → isClahe strategy ≡ true → work ≡ 16384
+unfolding workRefused
 work-length strategy work e c = named work 16384 (rw c at e)
 
 -- a grey call
 module _ (strategy : AutoscaleStrategy) (rows cols : ℕ) (m : List ℕ) (d : List Float) (out work : ℕ) where
-  pub grey-ready : (ts : List Bool) → firstOf 1 (tooWide rows cols ∷ (notNamed rows cols m d || unlike out (rows * cols) || workUnlike strategy work) ∷ ts) ≡ 0 →
+  pub grey-ready : (ts : List Bool) → firstOf 1 (sidesRefused rows cols ∷ (lengthsRefused rows cols m d || unlike out (rows * cols) || workRefused strategy work) ∷ ts) ≡ 0 →
       Ready strategy rows cols m d out work
   grey-ready ts e =
-      let a = none-applies 0 (tooWide rows cols) ((notNamed rows cols m d || unlike out (rows * cols) || workUnlike strategy work) ∷ ts) e in
-      let b = none-applies 1 (notNamed rows cols m d || unlike out (rows * cols) || workUnlike strategy work) ts (a .1) in
-      let w = or-false (notNamed rows cols m d || unlike out (rows * cols)) (workUnlike strategy work) (b .0) in
-      let o = or-false (notNamed rows cols m d) (unlike out (rows * cols)) (w .0) in
+      let a = none-applies 0 (sidesRefused rows cols) ((lengthsRefused rows cols m d || unlike out (rows * cols) || workRefused strategy work) ∷ ts) e in
+      let b = none-applies 1 (lengthsRefused rows cols m d || unlike out (rows * cols) || workRefused strategy work) ts (a .1) in
+      let w = or-false (lengthsRefused rows cols m d || unlike out (rows * cols)) (workRefused strategy work) (b .0) in
+      let o = or-false (lengthsRefused rows cols m d) (unlike out (rows * cols)) (w .0) in
       record { band = sized rows cols m d (a .0) (o .0); out-length = named out (rows * cols) (o .1); work-length = work-length strategy work (w .1) }
 
 -- a picture
@@ -50,15 +50,15 @@ pub record PictureSized (strategy : AutoscaleStrategy) (rows cols : ℕ) (m1 : L
   pub rgb-length : lent .colours ≡ 3 * (rows * cols)
 
 module _ (strategy : AutoscaleStrategy) (rows cols : ℕ) (m1 : List ℕ) (d1 : List Float) (m2 : List ℕ) (d2 : List Float) (lent : Lent) where
-  pub picture-sized : (ts : List Bool) → firstOf 1 (tooWide rows cols ∷ lengthsUnlike strategy rows cols m1 d1 m2 d2 lent ∷ ts) ≡ 0 → PictureSized strategy rows cols m1 d1 m2 d2 lent
+  pub picture-sized : (ts : List Bool) → firstOf 1 (sidesRefused rows cols ∷ pictureLengthsRefused strategy rows cols m1 d1 m2 d2 lent ∷ ts) ≡ 0 → PictureSized strategy rows cols m1 d1 m2 d2 lent
   picture-sized ts e =
-      let a = none-applies 0 (tooWide rows cols) (lengthsUnlike strategy rows cols m1 d1 m2 d2 lent ∷ ts) e in
-      let b = none-applies 1 (lengthsUnlike strategy rows cols m1 d1 m2 d2 lent) ts (a .1) in
-      let w = or-false _ (workUnlike strategy (lent .work)) (b .0) in
+      let a = none-applies 0 (sidesRefused rows cols) (pictureLengthsRefused strategy rows cols m1 d1 m2 d2 lent ∷ ts) e in
+      let b = none-applies 1 (pictureLengthsRefused strategy rows cols m1 d1 m2 d2 lent) ts (a .1) in
+      let w = or-false _ (workRefused strategy (lent .work)) (b .0) in
       let c = or-false _ (unlike (lent .colours) (3 * (rows * cols))) (w .0) in
       let g2 = or-false _ (unlike (lent .grey2) (rows * cols)) (c .0) in
-      let g1 = or-false (notNamed rows cols m1 d1 || notNamed rows cols m2 d2) (unlike (lent .grey1) (rows * cols)) (g2 .0) in
-      let n = or-false (notNamed rows cols m1 d1) (notNamed rows cols m2 d2) (g1 .0) in
+      let g1 = or-false (lengthsRefused rows cols m1 d1 || lengthsRefused rows cols m2 d2) (unlike (lent .grey1) (rows * cols)) (g2 .0) in
+      let n = or-false (lengthsRefused rows cols m1 d1) (lengthsRefused rows cols m2 d2) (g1 .0) in
       let k = work-length strategy (lent .work) (w .1) in
       record {
         band1 = record { band = sized rows cols m1 d1 (a .0) (n .0); out-length = named (lent .grey1) (rows * cols) (g1 .1); work-length = k };

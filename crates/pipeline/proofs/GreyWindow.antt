@@ -13,11 +13,11 @@ use Rattle.types.proofs.WindowAnswer.{the-type}
 use Rattle.spec.specs.Answer.{firstOf}
 use Rattle.spec.specs.Grey.{greyTests}
 use Rattle.spec.specs.Pixels.{Pixel, pixels}
-use Rattle.spec.specs.Refusals.{tooWide, notNamed, unlike, workUnlike, badMark, badDecibel, badTiles}
+use Rattle.spec.specs.Refusals.{sidesRefused, lengthsRefused, unlike, workRefused, marksRefused, decibelsRefused, tilesRefused}
 use Rattle.spec.specs.Statistics.{statisticsOf}
-use Rattle.spec.specs.Window.{windowOf, otherGamma}
+use Rattle.spec.specs.Window.{windowOf, gammaRefused}
 use Rattle.autoscale.specs.Bands.{bandWindow}
-use Rattle.pipeline.specs.Windows.{tilesRefused, greyWindow}
+use Rattle.pipeline.specs.Windows.{windowTilesRefused, greyWindow}
 use Rattle.pipeline.proofs.Tests.{at-shape, at-four, at-five, at-six, at-none}
 use Rattle.pipeline.proofs.Windowed.{window-open, tiles-window, banded-bad, banded-good}
 
@@ -26,7 +26,7 @@ module _ (strategy : AutoscaleStrategy) (rows cols : ℕ) (m : List ℕ) (d : Li
   px = pixels m d
 
   abbrev lengths : Bool
-  lengths = notNamed rows cols m d || unlike out (rows * cols) || workUnlike strategy work
+  lengths = lengthsRefused rows cols m d || unlike out (rows * cols) || workRefused strategy work
 
   abbrev w0 : WindowAnswer
   w0 = windowOf strategy (statisticsOf px)
@@ -35,7 +35,7 @@ module _ (strategy : AutoscaleStrategy) (rows cols : ℕ) (m : List ℕ) (d : Li
   W = greyWindow strategy rows cols m d out work
 
   abbrev shape : List Bool
-  shape = tooWide rows cols ∷ lengths ∷ badMark m ∷ []
+  shape = sidesRefused rows cols ∷ lengths ∷ marksRefused m ∷ []
 
   pub grey-shape : (k : ℕ) → k ≡ firstOf 1 shape → (k ≡ 0 → ⊥) → Refused k ≡ W
   unfolding greyWindow greyTests
@@ -45,26 +45,26 @@ module _ (strategy : AutoscaleStrategy) (rows cols : ℕ) (m : List ℕ) (d : Li
     pub grey-bad : (k : ℕ) → w ≡ Refused k → Refused k ≡ W
     unfolding greyWindow greyTests bandWindow
     grey-bad k e =
-        let b = banded-bad w0 w (badDecibel px) k (window-open strategy (statisticsOf px)) q e in
+        let b = banded-bad w0 w (decibelsRefused px) k (window-open strategy (statisticsOf px)) q e in
         ap Refused (sym (b .1)) ∙ at-four Refused w0 _ _ _ _ _ _ good (b .0)
 
     module _ (unrefused : OneOf (0 ∷ 1 ∷ []) (tagOf the-type w)) where
-      known : (badDecibel px ≡ false) × (w ≡ w0)
+      known : (decibelsRefused px ≡ false) × (w ≡ w0)
       unfolding bandWindow
-      known = banded-good w0 w (badDecibel px) q unrefused
+      known = banded-good w0 w (decibelsRefused px) q unrefused
 
-      pub grey-tiles : tilesRefused strategy rows cols w ≡ true → Refused 5 ≡ W
+      pub grey-tiles : windowTilesRefused strategy rows cols w ≡ true → Refused 5 ≡ W
       unfolding greyWindow greyTests
       grey-tiles e = at-five Refused w0 _ _ _ _ _ _ good (known .0) (sym (tiles-window strategy rows cols px w (known .1)) ∙ e)
 
-      module _ (t : tilesRefused strategy rows cols w ≡ false) where
-        no-tiles : badTiles strategy rows cols px ≡ false
+      module _ (t : windowTilesRefused strategy rows cols w ≡ false) where
+        no-tiles : tilesRefused strategy rows cols px ≡ false
         no-tiles = sym (tiles-window strategy rows cols px w (known .1)) ∙ t
 
-        pub grey-gamma : otherGamma w ≡ true → Refused 6 ≡ W
+        pub grey-gamma : gammaRefused w ≡ true → Refused 6 ≡ W
         unfolding greyWindow greyTests
-        grey-gamma e = at-six Refused w0 _ _ _ _ _ _ good (known .0) no-tiles (sym (ap otherGamma (known .1)) ∙ e)
+        grey-gamma e = at-six Refused w0 _ _ _ _ _ _ good (known .0) no-tiles (sym (ap gammaRefused (known .1)) ∙ e)
 
-        pub grey-unrefused : otherGamma w ≡ false → w ≡ W
+        pub grey-unrefused : gammaRefused w ≡ false → w ≡ W
         unfolding greyWindow greyTests
-        grey-unrefused e = known .1 ∙ at-none Refused w0 _ _ _ _ _ _ good (known .0) no-tiles (sym (ap otherGamma (known .1)) ∙ e)
+        grey-unrefused e = known .1 ∙ at-none Refused w0 _ _ _ _ _ _ good (known .0) no-tiles (sym (ap gammaRefused (known .1)) ∙ e)

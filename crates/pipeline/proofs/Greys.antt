@@ -15,7 +15,7 @@ use Rattle.spec.specs.Answer.{Answer, refused, done, firstOf, orRefused, answer
 use Rattle.spec.specs.Pixels.{Pixel, pixels}
 use Rattle.spec.specs.Statistics.{statisticsOf}
 use Rattle.spec.specs.Strategies.{isClahe}
-use Rattle.spec.specs.Window.{windowOf, otherGamma}
+use Rattle.spec.specs.Window.{windowOf, gammaRefused}
 use Rattle.spec.specs.Clahe.{claheValues}
 use Rattle.spec.specs.Grey.{normalPixel, values, greyTests}
 use Rattle.autoscale.specs.Painted.{plainValues, painting}
@@ -28,8 +28,8 @@ use Rattle.pipeline.proofs.Accepted.{grey-ready}
 use Rattle.pipeline.proofs.Windowed.{window-open}
 
 -- ---- painting from a window that no number refuses
-pub open-painting : (w : WindowAnswer) → ((k : ℕ) → w ≡ Refused k → ⊥) → otherGamma w ≡ false → (greys : List ℕ) → painting w greys ≡ done greys
-unfolding painting otherGamma answer orRefused
+pub open-painting : (w : WindowAnswer) → ((k : ℕ) → w ≡ Refused k → ⊥) → gammaRefused w ≡ false → (greys : List ℕ) → painting w greys ≡ done greys
+unfolding painting gammaRefused answer orRefused
 open-painting (Window low high range gamma) n e greys = rw e
 open-painting Blank n e greys = refl
 open-painting (Refused k) n e greys = absurd (n k refl)
@@ -51,7 +51,7 @@ last-clear a b c d e f q =
 -- ---- the number n, or the window w0
 module _ (n : ℕ) (w0 : WindowAnswer) where
   -- what is owed is what painting answers
-  by-number : (g : WindowAnswer → List ℕ) → ((k : ℕ) → w0 ≡ Refused k → ⊥) → (n ≡ 0 → otherGamma w0 ≡ false) → answer n (g w0) ≡ painting (unless Refused n w0) (g (unless Refused n w0))
+  by-number : (g : WindowAnswer → List ℕ) → ((k : ℕ) → w0 ≡ Refused k → ⊥) → (n ≡ 0 → gammaRefused w0 ≡ false) → answer n (g w0) ≡ painting (unless Refused n w0) (g (unless Refused n w0))
   unfolding answer orRefused unless painting
   by-number g o h = by n refl
     where
@@ -85,7 +85,7 @@ module _ (strategy : AutoscaleStrategy) (rows cols : ℕ) (m : List ℕ) (d : Li
   unfolding greyWindow greyTests
   is-painting =
       ap (λ (v : WindowAnswer). painting v (g v)) is
-      ∙ sym (by-number n w0 g (window-open strategy (statisticsOf (pixels m d))) (last-clear _ _ _ _ _ (otherGamma w0)))
+      ∙ sym (by-number n w0 g (window-open strategy (statisticsOf (pixels m d))) (last-clear _ _ _ _ _ (gammaRefused w0)))
 
   -- refused: nothing is written
   pub grey-refused : (k : ℕ) (old : List ℕ) (kept : List Float) → w ≡ Refused k → (k ≡ number owed) × ((old ≡ after (λ l. l) owed old) × Kept (uses strategy owed) kept kept)

@@ -13,13 +13,13 @@ use Rattle.types.proofs.WindowAnswer.{the-type}
 use Rattle.spec.specs.Answer.{firstOf}
 use Rattle.spec.specs.Picture.{Lent, pictureTests}
 use Rattle.spec.specs.Pixels.{Pixel, pixels}
-use Rattle.spec.specs.Refusals.{tooWide, badMark, badDecibel, badTiles}
+use Rattle.spec.specs.Refusals.{sidesRefused, marksRefused, decibelsRefused, tilesRefused}
 use Rattle.spec.specs.Statistics.{statisticsOf}
-use Rattle.spec.specs.Window.{pictureWindow, otherGamma}
+use Rattle.spec.specs.Window.{pictureWindow, gammaRefused}
 use Rattle.autoscale.specs.Bands.{bandPictureWindow}
 use Rattle.pipeline.specs.declared.windows.PictureWindows.{PictureWindows}
 use Rattle.pipeline.specs.declared.windows.PictureWindows.the-variants as Both
-use Rattle.pipeline.specs.Windows.{tilesRefused, lengthsUnlike, pictureWindows}
+use Rattle.pipeline.specs.Windows.{windowTilesRefused, pictureLengthsRefused, pictureWindows}
 use Rattle.pipeline.proofs.Tests.{at-shape, at-four, at-five, at-six, at-none}
 use Rattle.pipeline.proofs.Windowed.{picture-open, tiles-picture, banded-bad, banded-good}
 
@@ -53,7 +53,7 @@ module _ (strategy : AutoscaleStrategy) (rows cols : ℕ) (m1 : List ℕ) (d1 : 
   W = pictureWindows strategy rows cols m1 d1 m2 d2 lent
 
   abbrev shape : List Bool
-  shape = tooWide rows cols ∷ lengthsUnlike strategy rows cols m1 d1 m2 d2 lent ∷ (badMark m1 || badMark m2) ∷ []
+  shape = sidesRefused rows cols ∷ pictureLengthsRefused strategy rows cols m1 d1 m2 d2 lent ∷ (marksRefused m1 || marksRefused m2) ∷ []
 
   pub picture-shape : (k : ℕ) → k ≡ firstOf 1 shape → (k ≡ 0 → ⊥) → Both.Refused k ≡ W
   unfolding pictureWindows pictureTests
@@ -63,44 +63,44 @@ module _ (strategy : AutoscaleStrategy) (rows cols : ℕ) (m1 : List ℕ) (d1 : 
     pub picture-bad-first : (k : ℕ) → w1 ≡ Refused k → Both.Refused k ≡ W
     unfolding pictureWindows pictureTests bandPictureWindow
     picture-bad-first k e =
-        let b = banded-bad w01 w1 (badDecibel px1) k (picture-open strategy true (statisticsOf px1)) q1 e in
-        ap Both.Refused (sym (b .1)) ∙ at-four Both.Refused both _ _ _ _ _ _ good (either-first (badDecibel px2) (b .0))
+        let b = banded-bad w01 w1 (decibelsRefused px1) k (picture-open strategy true (statisticsOf px1)) q1 e in
+        ap Both.Refused (sym (b .1)) ∙ at-four Both.Refused both _ _ _ _ _ _ good (either-first (decibelsRefused px2) (b .0))
 
     module _ (o1 : OneOf (0 ∷ 1 ∷ []) (tagOf the-type w1)) (w2 : WindowAnswer) (q2 : w2 ≡ bandPictureWindow strategy false px2) where
-      known1 : (badDecibel px1 ≡ false) × (w1 ≡ w01)
+      known1 : (decibelsRefused px1 ≡ false) × (w1 ≡ w01)
       unfolding bandPictureWindow
-      known1 = banded-good w01 w1 (badDecibel px1) q1 o1
+      known1 = banded-good w01 w1 (decibelsRefused px1) q1 o1
 
       pub picture-bad-second : (k : ℕ) → w2 ≡ Refused k → Both.Refused k ≡ W
       unfolding pictureWindows pictureTests bandPictureWindow
       picture-bad-second k e =
-          let b = banded-bad w02 w2 (badDecibel px2) k (picture-open strategy false (statisticsOf px2)) q2 e in
+          let b = banded-bad w02 w2 (decibelsRefused px2) k (picture-open strategy false (statisticsOf px2)) q2 e in
           ap Both.Refused (sym (b .1)) ∙ at-four Both.Refused both _ _ _ _ _ _ good (either-second (known1 .0) (b .0))
 
       module _ (o2 : OneOf (0 ∷ 1 ∷ []) (tagOf the-type w2)) where
-        known2 : (badDecibel px2 ≡ false) × (w2 ≡ w02)
+        known2 : (decibelsRefused px2 ≡ false) × (w2 ≡ w02)
         unfolding bandPictureWindow
-        known2 = banded-good w02 w2 (badDecibel px2) q2 o2
+        known2 = banded-good w02 w2 (decibelsRefused px2) q2 o2
 
         abbrev tiles : Bool
-        tiles = tilesRefused strategy rows cols w1 || tilesRefused strategy rows cols w2
+        tiles = windowTilesRefused strategy rows cols w1 || windowTilesRefused strategy rows cols w2
 
-        tiles-are : tiles ≡ (badTiles strategy rows cols px1 || badTiles strategy rows cols px2)
+        tiles-are : tiles ≡ (tilesRefused strategy rows cols px1 || tilesRefused strategy rows cols px2)
         tiles-are = both-same (tiles-picture strategy rows cols px1 true w1 (known1 .1)) (tiles-picture strategy rows cols px2 false w2 (known2 .1))
 
-        gammas : (otherGamma w1 || otherGamma w2) ≡ (otherGamma w01 || otherGamma w02)
-        gammas = both-same (ap otherGamma (known1 .1)) (ap otherGamma (known2 .1))
+        gammas : (gammaRefused w1 || gammaRefused w2) ≡ (gammaRefused w01 || gammaRefused w02)
+        gammas = both-same (ap gammaRefused (known1 .1)) (ap gammaRefused (known2 .1))
 
         pub picture-tiles : tiles ≡ true → Both.Refused 5 ≡ W
         unfolding pictureWindows pictureTests
         picture-tiles e = at-five Both.Refused both _ _ _ _ _ _ good (either-second (known1 .0) (known2 .0)) (sym tiles-are ∙ e)
 
         module _ (t : tiles ≡ false) where
-          pub picture-gamma : (otherGamma w1 || otherGamma w2) ≡ true → Both.Refused 6 ≡ W
+          pub picture-gamma : (gammaRefused w1 || gammaRefused w2) ≡ true → Both.Refused 6 ≡ W
           unfolding pictureWindows pictureTests
           picture-gamma e = at-six Both.Refused both _ _ _ _ _ _ good (either-second (known1 .0) (known2 .0)) (sym tiles-are ∙ t) (sym gammas ∙ e)
 
-          pub picture-unrefused : (otherGamma w1 || otherGamma w2) ≡ false → Both.Windows w1 w2 ≡ W
+          pub picture-unrefused : (gammaRefused w1 || gammaRefused w2) ≡ false → Both.Windows w1 w2 ≡ W
           unfolding pictureWindows pictureTests
           picture-unrefused e =
               ap (λ (w : WindowAnswer). Both.Windows w w2) (known1 .1) ∙ ap (λ (w : WindowAnswer). Both.Windows w01 w) (known2 .1)

@@ -18,7 +18,7 @@ use Rattle.spec.specs.Statistics.{statisticsOf}
 use Rattle.spec.specs.Strategies.{isClahe, isTamed}
 use Rattle.spec.specs.Stretch.{stretch}
 use Rattle.spec.specs.Value.{full8}
-use Rattle.spec.specs.Window.{pictureWindow, otherGamma}
+use Rattle.spec.specs.Window.{pictureWindow, gammaRefused}
 use Rattle.autoscale.specs.Painted.{plainValues, painting}
 use Rattle.autoscale.proofs.Answers.{values-outside}
 use Rattle.raster.proofs.Bands.{or-false}
@@ -123,9 +123,9 @@ module _ (strategy : AutoscaleStrategy) (rows cols : ℕ) (m1 : List ℕ) (d1 : 
     unfolding pictureWindows
     parts = unless-windows n w01 w02 w1 w2 (sym is ∙ e)
 
-    gammas : (otherGamma w01 ≡ false) × (otherGamma w02 ≡ false)
+    gammas : (gammaRefused w01 ≡ false) × (gammaRefused w02 ≡ false)
     unfolding pictureTests
-    gammas = or-false (otherGamma w01) (otherGamma w02) (last-clear _ _ _ _ _ (otherGamma w01 || otherGamma w02) (parts .0))
+    gammas = or-false (gammaRefused w01) (gammaRefused w02) (last-clear _ _ _ _ _ (gammaRefused w01 || gammaRefused w02) (parts .0))
 
     -- both windows are known, and nothing is refused
     pub picture-asks : PictureReady strategy rows cols m1 d1 w1 m2 d2 w2 (lent .grey1) (lent .grey2) (lent .colours) (lent .work)

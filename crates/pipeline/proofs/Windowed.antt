@@ -17,12 +17,12 @@ use Rattle.types.specs.declared.WindowAnswer.the-variants.{Window, Blank, Refus
 use Rattle.types.proofs.WindowAnswer.{the-type}
 use Rattle.spec.specs.Lists.{any}
 use Rattle.spec.specs.Pixels.{Pixel, off, on, validOf, isOn}
-use Rattle.spec.specs.Refusals.{badSide, badTiles}
+use Rattle.spec.specs.Refusals.{sideRefused, tilesRefused}
 use Rattle.spec.specs.Statistics.{statisticsOf}
 use Rattle.spec.specs.Strategies.{isClahe, isTamed}
-use Rattle.spec.specs.Window.{opened, chosen, tamed, windowOf, pictureWindow}
+use Rattle.spec.specs.Window.{opened, chooseClip, tamedClip, windowOf, pictureWindow}
 use Rattle.histogram.proofs.Counting.{count-valid}
-use Rattle.pipeline.specs.Windows.{hasWindow, tilesRefused}
+use Rattle.pipeline.specs.Windows.{hasWindow, windowTilesRefused}
 
 -- ---- no refusal by itself
 
@@ -33,11 +33,11 @@ never false c k e = let z : _≡_ {A = ℕ} 0 1 = cc in omega arith
 
 pub window-open : (strategy : AutoscaleStrategy) (s : HistogramStats) (k : ℕ) → windowOf strategy s ≡ Refused k → ⊥
 unfolding windowOf
-window-open strategy s k e = never (eqb (s .«valid_count») 0) (chosen strategy s) k e
+window-open strategy s k e = never (eqb (s .«valid_count») 0) (chooseClip strategy s) k e
 
 pub picture-open : (strategy : AutoscaleStrategy) (copol : Bool) (s : HistogramStats) (k : ℕ) → pictureWindow strategy copol s ≡ Refused k → ⊥
 unfolding pictureWindow
-picture-open strategy copol s k e = never (eqb (s .«valid_count») 0) (cond (isTamed strategy) (tamed copol s) (chosen strategy s)) k e
+picture-open strategy copol s k e = never (eqb (s .«valid_count») 0) (cond (isTamed strategy) (tamedClip copol s) (chooseClip strategy s)) k e
 
 -- ---- a window exactly with a valid pixel
 
@@ -57,36 +57,36 @@ valid-count px = ap (λ (n : ℕ). not (eqb n 0)) (count-valid px) ∙ some-vali
 
 has-window : (strategy : AutoscaleStrategy) (px : List Pixel) → hasWindow (windowOf strategy (statisticsOf px)) ≡ any isOn px
 unfolding windowOf
-has-window strategy px = has-opened (eqb (statisticsOf px .«valid_count») 0) (chosen strategy (statisticsOf px)) ∙ valid-count px
+has-window strategy px = has-opened (eqb (statisticsOf px .«valid_count») 0) (chooseClip strategy (statisticsOf px)) ∙ valid-count px
 
 has-picture : (strategy : AutoscaleStrategy) (copol : Bool) (px : List Pixel) → hasWindow (pictureWindow strategy copol (statisticsOf px)) ≡ any isOn px
 unfolding pictureWindow
 has-picture strategy copol px =
-    has-opened (eqb (statisticsOf px .«valid_count») 0) (cond (isTamed strategy) (tamed copol (statisticsOf px)) (chosen strategy (statisticsOf px))) ∙ valid-count px
+    has-opened (eqb (statisticsOf px .«valid_count») 0) (cond (isTamed strategy) (tamedClip copol (statisticsOf px)) (chooseClip strategy (statisticsOf px))) ∙ valid-count px
 
 module _ (strategy : AutoscaleStrategy) (rows cols : ℕ) (px : List Pixel) where
-  tiles-by : (w : WindowAnswer) → hasWindow w ≡ any isOn px → tilesRefused strategy rows cols w ≡ badTiles strategy rows cols px
-  unfolding tilesRefused badTiles
-  tiles-by w e = ap (λ (b : Bool). isClahe strategy && b && (badSide rows || badSide cols)) e
+  tiles-by : (w : WindowAnswer) → hasWindow w ≡ any isOn px → windowTilesRefused strategy rows cols w ≡ tilesRefused strategy rows cols px
+  unfolding windowTilesRefused tilesRefused
+  tiles-by w e = ap (λ (b : Bool). isClahe strategy && b && (sideRefused rows || sideRefused cols)) e
 
   -- 5 by the window
-  pub tiles-window : (w : WindowAnswer) → w ≡ windowOf strategy (statisticsOf px) → tilesRefused strategy rows cols w ≡ badTiles strategy rows cols px
+  pub tiles-window : (w : WindowAnswer) → w ≡ windowOf strategy (statisticsOf px) → windowTilesRefused strategy rows cols w ≡ tilesRefused strategy rows cols px
   tiles-window w e = tiles-by w (ap hasWindow e ∙ has-window strategy px)
 
-  pub tiles-picture : (copol : Bool) (w : WindowAnswer) → w ≡ pictureWindow strategy copol (statisticsOf px) → tilesRefused strategy rows cols w ≡ badTiles strategy rows cols px
+  pub tiles-picture : (copol : Bool) (w : WindowAnswer) → w ≡ pictureWindow strategy copol (statisticsOf px) → windowTilesRefused strategy rows cols w ≡ tilesRefused strategy rows cols px
   tiles-picture copol w e = tiles-by w (ap hasWindow e ∙ has-picture strategy copol px)
 
-pub tiles-none : (strategy : AutoscaleStrategy) (rows cols : ℕ) (w : WindowAnswer) → OneOf (1 ∷ 2 ∷ []) (tagOf the-type w) → false ≡ tilesRefused strategy rows cols w
-unfolding tilesRefused hasWindow
+pub tiles-none : (strategy : AutoscaleStrategy) (rows cols : ℕ) (w : WindowAnswer) → OneOf (1 ∷ 2 ∷ []) (tagOf the-type w) → false ≡ windowTilesRefused strategy rows cols w
+unfolding windowTilesRefused hasWindow
 tiles-none strategy rows cols (Window low high range gamma) h = absurd (miss (1 ∷ 2 ∷ []) 0 tt h)
 tiles-none strategy rows cols Blank h = none (isClahe strategy)
   where
-  none : (b : Bool) → false ≡ (b && false && (badSide rows || badSide cols))
+  none : (b : Bool) → false ≡ (b && false && (sideRefused rows || sideRefused cols))
   none true = refl
   none false = refl
 tiles-none strategy rows cols (Refused k) h = none (isClahe strategy)
   where
-  none : (b : Bool) → false ≡ (b && false && (badSide rows || badSide cols))
+  none : (b : Bool) → false ≡ (b && false && (sideRefused rows || sideRefused cols))
   none true = refl
   none false = refl
 

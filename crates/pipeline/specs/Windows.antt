@@ -10,7 +10,7 @@ use Rattle.spec.specs.Answer.{firstOf}
 use Rattle.spec.specs.Grey.{greyTests}
 use Rattle.spec.specs.Picture.{Lent, pictureTests}
 use Rattle.spec.specs.Pixels.{pixels}
-use Rattle.spec.specs.Refusals.{notNamed, unlike, workUnlike, badSide}
+use Rattle.spec.specs.Refusals.{lengthsRefused, unlike, workRefused, sideRefused}
 use Rattle.spec.specs.Statistics.{statisticsOf}
 use Rattle.spec.specs.Strategies.{isClahe}
 use Rattle.spec.specs.Window.{windowOf, pictureWindow}
@@ -24,8 +24,8 @@ hasWindow Blank = false
 hasWindow (Refused k) = false
 
 -- 5, of a band with this window
-unfoldable pub tilesRefused : AutoscaleStrategy → ℕ → ℕ → WindowAnswer → Bool
-tilesRefused strategy rows cols w = isClahe strategy && hasWindow w && (badSide rows || badSide cols)
+unfoldable pub windowTilesRefused : AutoscaleStrategy → ℕ → ℕ → WindowAnswer → Bool
+windowTilesRefused strategy rows cols w = isClahe strategy && hasWindow w && (sideRefused rows || sideRefused cols)
 
 -- a refusal by its number, or what is answered where no number applies
 unfoldable pub unless : {A : Type 0} → (ℕ → A) → ℕ → A → A
@@ -44,10 +44,10 @@ abbrev pub lentLengths : ℕ → ℕ → ℕ → ℕ → Lent
 lentLengths g1 g2 rgb w = record { grey1 = g1; grey2 = g2; colours = rgb; work = w }
 
 -- 2 of a picture, as `pictureTests` has it
-abbrev pub lengthsUnlike : AutoscaleStrategy → ℕ → ℕ → List ℕ → List Float → List ℕ → List Float → Lent → Bool
-lengthsUnlike strategy rows cols marks1 db1 marks2 db2 lent =
-    notNamed rows cols marks1 db1 || notNamed rows cols marks2 db2 || unlike (lent .grey1) (rows * cols)
-    || unlike (lent .grey2) (rows * cols) || unlike (lent .colours) (3 * (rows * cols)) || workUnlike strategy (lent .work)
+abbrev pub pictureLengthsRefused : AutoscaleStrategy → ℕ → ℕ → List ℕ → List Float → List ℕ → List Float → Lent → Bool
+pictureLengthsRefused strategy rows cols marks1 db1 marks2 db2 lent =
+    lengthsRefused rows cols marks1 db1 || lengthsRefused rows cols marks2 db2 || unlike (lent .grey1) (rows * cols)
+    || unlike (lent .grey2) (rows * cols) || unlike (lent .colours) (3 * (rows * cols)) || workRefused strategy (lent .work)
 
 -- both windows of a picture, or the number that refuses the call
 unfoldable pub pictureWindows : AutoscaleStrategy → ℕ → ℕ → List ℕ → List Float → List ℕ → List Float → Lent → PictureWindows

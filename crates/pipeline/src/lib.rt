@@ -7,8 +7,8 @@ ghost use mathlib.Core.Path.{_≡_};
 ghost use lib.ListN.{length};
 ghost use Rattle.spec.specs.Answer.{number, replyNumber, after};
 ghost use Rattle.spec.specs.Colour.{bytesOf};
-ghost use Rattle.spec.specs.Grey.{grey8, grey16};
-ghost use Rattle.spec.specs.Picture.{pictureOf};
+ghost use Rattle.spec.specs.Grey.{autoscaleDbImageToU8, autoscaleDbImageToU16};
+ghost use Rattle.spec.specs.Picture.{syntheticRgbPicture};
 ghost use Rattle.pipeline.specs.Windows.{lentLengths};
 ghost use Rattle.pipeline.specs.Work.{uses, Kept};
 use types::{AutoscaleStrategy, Reply, SyntheticRgbMode, WindowAnswer};
@@ -17,13 +17,13 @@ use windows::PictureWindows;
 // Grey of one band at 8 bits.
 pub fn autoscale_db_image_to_u8(rows: usize, cols: usize, strategy: AutoscaleStrategy, db: &[f64], valid_mask: &[u8], out: &mut [u8], work: &mut [f64]) -> Reply
     ensures reply {
-        λ r. ⌜ replyNumber r ≡ number (grey8 strategy rows cols (now («valid_mask» .entry)) (now (db .entry)) (length (now (out .entry))) (length (now (work .entry)))) ⌝
+        λ r. ⌜ replyNumber r ≡ number (autoscaleDbImageToU8 strategy rows cols (now («valid_mask» .entry)) (now (db .entry)) (length (now (out .entry))) (length (now (work .entry)))) ⌝
     }
     ensures greys {
-        λ _. ⌜ now (out .exit) ≡ after (λ l. l) (grey8 strategy rows cols (now («valid_mask» .entry)) (now (db .entry)) (length (now (out .entry))) (length (now (work .entry)))) (now (out .entry)) ⌝
+        λ _. ⌜ now (out .exit) ≡ after (λ l. l) (autoscaleDbImageToU8 strategy rows cols (now («valid_mask» .entry)) (now (db .entry)) (length (now (out .entry))) (length (now (work .entry)))) (now (out .entry)) ⌝
     }
     ensures work {
-        λ _. ⌜ Kept (uses strategy (grey8 strategy rows cols (now («valid_mask» .entry)) (now (db .entry)) (length (now (out .entry))) (length (now (work .entry))))) (now (work .entry)) (now (work .exit)) ⌝
+        λ _. ⌜ Kept (uses strategy (autoscaleDbImageToU8 strategy rows cols (now («valid_mask» .entry)) (now (db .entry)) (length (now (out .entry))) (length (now (work .entry))))) (now (work .entry)) (now (work .exit)) ⌝
     }
 {
     let window = windows::grey_window(rows, cols, strategy, db, valid_mask, out.len(), work.len());
@@ -36,13 +36,13 @@ pub fn autoscale_db_image_to_u8(rows: usize, cols: usize, strategy: AutoscaleStr
 // Grey of one band at 16 bits: no stretch.
 pub fn autoscale_db_image_to_u16(rows: usize, cols: usize, strategy: AutoscaleStrategy, db: &[f64], valid_mask: &[u8], out: &mut [u16], work: &mut [f64]) -> Reply
     ensures reply {
-        λ r. ⌜ replyNumber r ≡ number (grey16 strategy rows cols (now («valid_mask» .entry)) (now (db .entry)) (length (now (out .entry))) (length (now (work .entry)))) ⌝
+        λ r. ⌜ replyNumber r ≡ number (autoscaleDbImageToU16 strategy rows cols (now («valid_mask» .entry)) (now (db .entry)) (length (now (out .entry))) (length (now (work .entry)))) ⌝
     }
     ensures greys {
-        λ _. ⌜ now (out .exit) ≡ after (λ l. l) (grey16 strategy rows cols (now («valid_mask» .entry)) (now (db .entry)) (length (now (out .entry))) (length (now (work .entry)))) (now (out .entry)) ⌝
+        λ _. ⌜ now (out .exit) ≡ after (λ l. l) (autoscaleDbImageToU16 strategy rows cols (now («valid_mask» .entry)) (now (db .entry)) (length (now (out .entry))) (length (now (work .entry)))) (now (out .entry)) ⌝
     }
     ensures work {
-        λ _. ⌜ Kept (uses strategy (grey16 strategy rows cols (now («valid_mask» .entry)) (now (db .entry)) (length (now (out .entry))) (length (now (work .entry))))) (now (work .entry)) (now (work .exit)) ⌝
+        λ _. ⌜ Kept (uses strategy (autoscaleDbImageToU16 strategy rows cols (now («valid_mask» .entry)) (now (db .entry)) (length (now (out .entry))) (length (now (work .entry))))) (now (work .entry)) (now (work .exit)) ⌝
     }
 {
     let window = windows::grey_window(rows, cols, strategy, db, valid_mask, out.len(), work.len());
@@ -55,23 +55,23 @@ pub fn autoscale_db_image_to_u16(rows: usize, cols: usize, strategy: AutoscaleSt
 // The picture of two bands: both windows first, then the greys, then the colours. Under Tamed band 1 counts as co-pol.
 pub fn synthetic_rgb_picture(rows: usize, cols: usize, strategy: AutoscaleStrategy, mode: SyntheticRgbMode, db1: &[f64], valid_mask1: &[u8], db2: &[f64], valid_mask2: &[u8], grey1: &mut [u8], grey2: &mut [u8], rgb: &mut [u8], work: &mut [f64]) -> Reply
     ensures reply {
-        λ r. ⌜ replyNumber r ≡ number (pictureOf strategy mode rows cols (now («valid_mask1» .entry)) (now (db1 .entry)) (now («valid_mask2» .entry)) (now (db2 .entry))
+        λ r. ⌜ replyNumber r ≡ number (syntheticRgbPicture strategy mode rows cols (now («valid_mask1» .entry)) (now (db1 .entry)) (now («valid_mask2» .entry)) (now (db2 .entry))
             (lentLengths (length (now (grey1 .entry))) (length (now (grey2 .entry))) (length (now (rgb .entry))) (length (now (work .entry))))) ⌝
     }
     ensures grey1 {
-        λ _. ⌜ now (grey1 .exit) ≡ after (λ p. p .grey1) (pictureOf strategy mode rows cols (now («valid_mask1» .entry)) (now (db1 .entry)) (now («valid_mask2» .entry)) (now (db2 .entry))
+        λ _. ⌜ now (grey1 .exit) ≡ after (λ p. p .grey1) (syntheticRgbPicture strategy mode rows cols (now («valid_mask1» .entry)) (now (db1 .entry)) (now («valid_mask2» .entry)) (now (db2 .entry))
             (lentLengths (length (now (grey1 .entry))) (length (now (grey2 .entry))) (length (now (rgb .entry))) (length (now (work .entry))))) (now (grey1 .entry)) ⌝
     }
     ensures grey2 {
-        λ _. ⌜ now (grey2 .exit) ≡ after (λ p. p .grey2) (pictureOf strategy mode rows cols (now («valid_mask1» .entry)) (now (db1 .entry)) (now («valid_mask2» .entry)) (now (db2 .entry))
+        λ _. ⌜ now (grey2 .exit) ≡ after (λ p. p .grey2) (syntheticRgbPicture strategy mode rows cols (now («valid_mask1» .entry)) (now (db1 .entry)) (now («valid_mask2» .entry)) (now (db2 .entry))
             (lentLengths (length (now (grey1 .entry))) (length (now (grey2 .entry))) (length (now (rgb .entry))) (length (now (work .entry))))) (now (grey2 .entry)) ⌝
     }
     ensures rgb {
-        λ _. ⌜ now (rgb .exit) ≡ after (λ p. bytesOf (p .colours)) (pictureOf strategy mode rows cols (now («valid_mask1» .entry)) (now (db1 .entry)) (now («valid_mask2» .entry)) (now (db2 .entry))
+        λ _. ⌜ now (rgb .exit) ≡ after (λ p. bytesOf (p .colours)) (syntheticRgbPicture strategy mode rows cols (now («valid_mask1» .entry)) (now (db1 .entry)) (now («valid_mask2» .entry)) (now (db2 .entry))
             (lentLengths (length (now (grey1 .entry))) (length (now (grey2 .entry))) (length (now (rgb .entry))) (length (now (work .entry))))) (now (rgb .entry)) ⌝
     }
     ensures work {
-        λ _. ⌜ Kept (uses strategy (pictureOf strategy mode rows cols (now («valid_mask1» .entry)) (now (db1 .entry)) (now («valid_mask2» .entry)) (now (db2 .entry))
+        λ _. ⌜ Kept (uses strategy (syntheticRgbPicture strategy mode rows cols (now («valid_mask1» .entry)) (now (db1 .entry)) (now («valid_mask2» .entry)) (now (db2 .entry))
             (lentLengths (length (now (grey1 .entry))) (length (now (grey2 .entry))) (length (now (rgb .entry))) (length (now (work .entry)))))) (now (work .entry)) (now (work .exit)) ⌝
     }
 {

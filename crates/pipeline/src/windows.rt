@@ -4,9 +4,9 @@ ghost use mathlib.Core.Bool.{_||_};
 ghost use mathlib.Core.List.{_∷_, []};
 ghost use Prim.Native.Nat.{_*_, _≤_};
 ghost use Rattle.spec.specs.Answer.{firstOf};
-ghost use Rattle.spec.specs.Refusals.{tooWide, notNamed, unlike, workUnlike, badMark};
-ghost use Rattle.spec.specs.Window.{otherGamma};
-ghost use Rattle.pipeline.specs.Windows.{tilesRefused, greyWindow, lentLengths, lengthsUnlike, pictureWindows};
+ghost use Rattle.spec.specs.Refusals.{sidesRefused, lengthsRefused, unlike, workRefused, marksRefused};
+ghost use Rattle.spec.specs.Window.{gammaRefused};
+ghost use Rattle.pipeline.specs.Windows.{windowTilesRefused, greyWindow, lentLengths, pictureLengthsRefused, pictureWindows};
 use crate::strategies;
 use types::{AutoscaleStrategy, WindowAnswer};
 
@@ -18,7 +18,7 @@ pub enum PictureWindows {
 
 // 2: whether Clahe's work is not 16,384 long.
 fn work_refused(strategy: AutoscaleStrategy, work: usize) -> bool
-    ensures { λ r. ⌜ r ≡ workUnlike strategy work ⌝ }
+    ensures { λ r. ⌜ r ≡ workRefused strategy work ⌝ }
 {
     if strategies::is_clahe(strategy) {
         return work != 16384;
@@ -27,9 +27,9 @@ fn work_refused(strategy: AutoscaleStrategy, work: usize) -> bool
 }
 
 // 5: whether Clahe refuses a side, of a band with this window.
-fn tiles_refused(strategy: AutoscaleStrategy, rows: usize, cols: usize, window: WindowAnswer) -> bool
+fn window_tiles_refused(strategy: AutoscaleStrategy, rows: usize, cols: usize, window: WindowAnswer) -> bool
     requires { ⌜ (rows ≤ 4096) × (cols ≤ 4096) ⌝ }
-    ensures { λ r. ⌜ r ≡ tilesRefused strategy rows cols window ⌝ }
+    ensures { λ r. ⌜ r ≡ windowTilesRefused strategy rows cols window ⌝ }
 {
     let WindowAnswer::Window {
         low: _,
@@ -49,7 +49,7 @@ fn tiles_refused(strategy: AutoscaleStrategy, rows: usize, cols: usize, window: 
 // 2 of a grey call: whether a lent length is not the one named.
 fn grey_lengths_refused(rows: usize, cols: usize, strategy: AutoscaleStrategy, db: &[f64], valid_mask: &[u8], out: usize, work: usize) -> bool
     requires { ⌜ (rows ≤ 4096) × (cols ≤ 4096) ⌝ }
-    ensures { λ r. ⌜ r ≡ (notNamed rows cols (now («valid_mask» .entry)) (now (db .entry)) || unlike out (rows * cols) || workUnlike strategy work) ⌝ }
+    ensures { λ r. ⌜ r ≡ (lengthsRefused rows cols (now («valid_mask» .entry)) (now (db .entry)) || unlike out (rows * cols) || workRefused strategy work) ⌝ }
 {
     if raster::lengths_refused(rows, cols, db, valid_mask) {
         return true;
@@ -63,8 +63,8 @@ fn grey_lengths_refused(rows: usize, cols: usize, strategy: AutoscaleStrategy, d
 // The smallest of the numbers 1 to 3 that applies to a grey call, 0 if none does.
 fn grey_refusal(rows: usize, cols: usize, strategy: AutoscaleStrategy, db: &[f64], valid_mask: &[u8], out: usize, work: usize) -> u8
     ensures { λ r. ⌜ r ≡ firstOf 1 (
-        tooWide rows cols ∷ (notNamed rows cols (now («valid_mask» .entry)) (now (db .entry)) || unlike out (rows * cols) || workUnlike strategy work)
-        ∷ badMark (now («valid_mask» .entry)) ∷ []) ⌝ }
+        sidesRefused rows cols ∷ (lengthsRefused rows cols (now («valid_mask» .entry)) (now (db .entry)) || unlike out (rows * cols) || workRefused strategy work)
+        ∷ marksRefused (now («valid_mask» .entry)) ∷ []) ⌝ }
 {
     if raster::sides_refused(rows, cols) {
         return 1;
@@ -90,7 +90,7 @@ pub fn grey_window(rows: usize, cols: usize, strategy: AutoscaleStrategy, db: &[
     if let WindowAnswer::Refused(k) = window {
         return WindowAnswer::Refused(k);
     }
-    if tiles_refused(strategy, rows, cols, window) {
+    if window_tiles_refused(strategy, rows, cols, window) {
         return WindowAnswer::Refused(5);
     }
     if autoscale::gamma_refused(window) {
@@ -102,7 +102,7 @@ pub fn grey_window(rows: usize, cols: usize, strategy: AutoscaleStrategy, db: &[
 // 2 of a picture: whether a lent length is not the one named.
 fn picture_lengths_refused(rows: usize, cols: usize, strategy: AutoscaleStrategy, db1: &[f64], valid_mask1: &[u8], db2: &[f64], valid_mask2: &[u8], grey1: usize, grey2: usize, rgb: usize, work: usize) -> bool
     requires { ⌜ (rows ≤ 4096) × (cols ≤ 4096) ⌝ }
-    ensures { λ r. ⌜ r ≡ lengthsUnlike strategy rows cols (now («valid_mask1» .entry)) (now (db1 .entry)) (now («valid_mask2» .entry)) (now (db2 .entry)) (lentLengths grey1 grey2 rgb work) ⌝ }
+    ensures { λ r. ⌜ r ≡ pictureLengthsRefused strategy rows cols (now («valid_mask1» .entry)) (now (db1 .entry)) (now («valid_mask2» .entry)) (now (db2 .entry)) (lentLengths grey1 grey2 rgb work) ⌝ }
 {
     if raster::lengths_refused(rows, cols, db1, valid_mask1) {
         return true;
@@ -125,7 +125,7 @@ fn picture_lengths_refused(rows: usize, cols: usize, strategy: AutoscaleStrategy
 
 // 3 of a picture.
 fn either_marks_refused(valid_mask1: &[u8], valid_mask2: &[u8]) -> bool
-    ensures { λ r. ⌜ r ≡ (badMark (now («valid_mask1» .entry)) || badMark (now («valid_mask2» .entry))) ⌝ }
+    ensures { λ r. ⌜ r ≡ (marksRefused (now («valid_mask1» .entry)) || marksRefused (now («valid_mask2» .entry))) ⌝ }
 {
     if raster::marks_refused(valid_mask1) {
         return true;
@@ -136,9 +136,9 @@ fn either_marks_refused(valid_mask1: &[u8], valid_mask2: &[u8]) -> bool
 // The smallest of the numbers 1 to 3 that applies to a picture, 0 if none does.
 fn picture_refusal(rows: usize, cols: usize, strategy: AutoscaleStrategy, db1: &[f64], valid_mask1: &[u8], db2: &[f64], valid_mask2: &[u8], grey1: usize, grey2: usize, rgb: usize, work: usize) -> u8
     ensures { λ r. ⌜ r ≡ firstOf 1 (
-        tooWide rows cols
-        ∷ lengthsUnlike strategy rows cols (now («valid_mask1» .entry)) (now (db1 .entry)) (now («valid_mask2» .entry)) (now (db2 .entry)) (lentLengths grey1 grey2 rgb work)
-        ∷ (badMark (now («valid_mask1» .entry)) || badMark (now («valid_mask2» .entry))) ∷ []) ⌝ }
+        sidesRefused rows cols
+        ∷ pictureLengthsRefused strategy rows cols (now («valid_mask1» .entry)) (now (db1 .entry)) (now («valid_mask2» .entry)) (now (db2 .entry)) (lentLengths grey1 grey2 rgb work)
+        ∷ (marksRefused (now («valid_mask1» .entry)) || marksRefused (now («valid_mask2» .entry))) ∷ []) ⌝ }
 {
     if raster::sides_refused(rows, cols) {
         return 1;
@@ -155,17 +155,17 @@ fn picture_refusal(rows: usize, cols: usize, strategy: AutoscaleStrategy, db1: &
 // 5 of a picture, of bands with these windows.
 fn either_tiles_refused(strategy: AutoscaleStrategy, rows: usize, cols: usize, window1: WindowAnswer, window2: WindowAnswer) -> bool
     requires { ⌜ (rows ≤ 4096) × (cols ≤ 4096) ⌝ }
-    ensures { λ r. ⌜ r ≡ (tilesRefused strategy rows cols window1 || tilesRefused strategy rows cols window2) ⌝ }
+    ensures { λ r. ⌜ r ≡ (windowTilesRefused strategy rows cols window1 || windowTilesRefused strategy rows cols window2) ⌝ }
 {
-    if tiles_refused(strategy, rows, cols, window1) {
+    if window_tiles_refused(strategy, rows, cols, window1) {
         return true;
     }
-    tiles_refused(strategy, rows, cols, window2)
+    window_tiles_refused(strategy, rows, cols, window2)
 }
 
 // 6 of a picture.
 fn either_gamma_refused(window1: WindowAnswer, window2: WindowAnswer) -> bool
-    ensures { λ r. ⌜ r ≡ (otherGamma window1 || otherGamma window2) ⌝ }
+    ensures { λ r. ⌜ r ≡ (gammaRefused window1 || gammaRefused window2) ⌝ }
 {
     if autoscale::gamma_refused(window1) {
         return true;

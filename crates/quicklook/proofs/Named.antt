@@ -14,18 +14,18 @@ use Rattle.quicklook.specs.declared.codes.StrategyCode.{StrategyCode}
 use Rattle.quicklook.specs.declared.codes.StrategyCode.the-variants as ByStrategy
 use Rattle.quicklook.specs.declared.codes.ModeCode.{ModeCode}
 use Rattle.quicklook.specs.declared.codes.ModeCode.the-variants as ByMode
-use Rattle.quicklook.specs.Codes.{strategies, modes, strategyCode, modeCode, withStrategy, withMode, usesNamed}
+use Rattle.quicklook.specs.Codes.{strategies, modes, strategyOf, modeOf, withStrategy, withMode, usesNamed}
 
 -- a code that is none of the first k is k or more
 pub past : {k n : ℕ} → k ≤ n → (n ≡ k → ⊥) → suc k ≤ n
 past h other = omega arith
 
-pub no-strategy : (code : ℕ) → 7 ≤ code → ByStrategy.Nothing ≡ strategyCode code
-unfolding strategyCode
+pub no-strategy : (code : ℕ) → 7 ≤ code → ByStrategy.Nothing ≡ strategyOf code
+unfolding strategyOf
 no-strategy code h = sym (List·getD-eq-default strategies ByStrategy.Nothing h)
 
-pub no-mode : (code : ℕ) → 4 ≤ code → ByMode.Nothing ≡ modeCode code
-unfolding modeCode
+pub no-mode : (code : ℕ) → 4 ≤ code → ByMode.Nothing ≡ modeOf code
+unfolding modeOf
 no-mode code h = sym (List·getD-eq-default modes ByMode.Nothing h)
 
 -- found is what the function gave for the code

@@ -23,11 +23,11 @@ strategies =
 abbrev pub modes : List ModeCode
 modes = ByMode.Names Mode.Default ∷ ByMode.Names Mode.RgbRatio ∷ ByMode.Names Mode.SarUrban ∷ ByMode.Names Mode.Enhanced ∷ []
 
-unfoldable pub strategyCode : ℕ → StrategyCode
-strategyCode code = getD strategies code ByStrategy.Nothing
+unfoldable pub strategyOf : ℕ → StrategyCode
+strategyOf code = getD strategies code ByStrategy.Nothing
 
-unfoldable pub modeCode : ℕ → ModeCode
-modeCode code = getD modes code ByMode.Nothing
+unfoldable pub modeOf : ℕ → ModeCode
+modeOf code = getD modes code ByMode.Nothing
 
 -- "A code that names nothing is answered 255 and alters nothing."
 unfoldable pub withStrategy : {A : Type 0} → StrategyCode → (AutoscaleStrategy → Answer A) → Answer A

@@ -3,7 +3,7 @@ ghost use mathlib.Core.Path.{_≡_};
 ghost use Rattle.spec.specs.Answer.{number, after};
 ghost use Rattle.spec.specs.Statistics as Statistics;
 ghost use Rattle.spec.specs.Window as Window;
-ghost use Rattle.quicklook.specs.Codes.{strategyCode, withStrategy};
+ghost use Rattle.quicklook.specs.Codes.{strategyOf, withStrategy};
 ghost use Rattle.quicklook.specs.Numbers.{kept, countOf, floatsOf, blankOf, windowFloats};
 use super::codes;
 use types::{AutoscaleStrategy, HistogramStats, StatisticsAnswer, WindowAnswer};
@@ -34,9 +34,9 @@ fn put_statistics(stats: HistogramStats, floats: &mut [f64; 15])
 // The count and the fifteen floats of a band.
 #[no_mangle]
 pub extern "C" fn quicklook_statistics(rows: usize, cols: usize, db: &[f64], valid_mask: &[u8], valid_count: &mut u64, floats: &mut [f64; 15]) -> u8
-    ensures reply { λ r. ⌜ r ≡ number (Statistics.statisticsCall rows cols (now («valid_mask» .entry)) (now (db .entry))) ⌝ }
-    ensures count { λ _. ⌜ now («valid_count» .exit) ≡ kept countOf (Statistics.statisticsCall rows cols (now («valid_mask» .entry)) (now (db .entry))) (now («valid_count» .entry)) ⌝ }
-    ensures floats { λ _. ⌜ now (floats .exit) ≡ after floatsOf (Statistics.statisticsCall rows cols (now («valid_mask» .entry)) (now (db .entry))) (now (floats .entry)) ⌝ }
+    ensures reply { λ r. ⌜ r ≡ number (Statistics.computeHistogramStats rows cols (now («valid_mask» .entry)) (now (db .entry))) ⌝ }
+    ensures count { λ _. ⌜ now («valid_count» .exit) ≡ kept countOf (Statistics.computeHistogramStats rows cols (now («valid_mask» .entry)) (now (db .entry))) (now («valid_count» .entry)) ⌝ }
+    ensures floats { λ _. ⌜ now (floats .exit) ≡ after floatsOf (Statistics.computeHistogramStats rows cols (now («valid_mask» .entry)) (now (db .entry))) (now (floats .entry)) ⌝ }
 {
     match histogram::compute_histogram_stats(rows, cols, db, valid_mask) {
         StatisticsAnswer::Statistics(stats) => {
@@ -50,9 +50,9 @@ pub extern "C" fn quicklook_statistics(rows: usize, cols: usize, db: &[f64], val
 
 // A window's floats, or blank and zeros.
 fn put_window(strategy: AutoscaleStrategy, rows: usize, cols: usize, db: &[f64], valid_mask: &[u8], blank: &mut u8, floats: &mut [f64; 4]) -> u8
-    ensures reply { λ r. ⌜ r ≡ number (Window.windowCall strategy rows cols (now («valid_mask» .entry)) (now (db .entry))) ⌝ }
-    ensures blank { λ _. ⌜ now (blank .exit) ≡ kept blankOf (Window.windowCall strategy rows cols (now («valid_mask» .entry)) (now (db .entry))) (now (blank .entry)) ⌝ }
-    ensures floats { λ _. ⌜ now (floats .exit) ≡ after windowFloats (Window.windowCall strategy rows cols (now («valid_mask» .entry)) (now (db .entry))) (now (floats .entry)) ⌝ }
+    ensures reply { λ r. ⌜ r ≡ number (Window.autoscaleWindow strategy rows cols (now («valid_mask» .entry)) (now (db .entry))) ⌝ }
+    ensures blank { λ _. ⌜ now (blank .exit) ≡ kept blankOf (Window.autoscaleWindow strategy rows cols (now («valid_mask» .entry)) (now (db .entry))) (now (blank .entry)) ⌝ }
+    ensures floats { λ _. ⌜ now (floats .exit) ≡ after windowFloats (Window.autoscaleWindow strategy rows cols (now («valid_mask» .entry)) (now (db .entry))) (now (floats .entry)) ⌝ }
 {
     match autoscale::autoscale_window(strategy, rows, cols, db, valid_mask) {
         WindowAnswer::Window {
@@ -78,13 +78,13 @@ fn put_window(strategy: AutoscaleStrategy, rows: usize, cols: usize, db: &[f64],
 #[no_mangle]
 pub extern "C" fn quicklook_window(strategy: u8, rows: usize, cols: usize, db: &[f64], valid_mask: &[u8], blank: &mut u8, floats: &mut [f64; 4]) -> u8
     ensures reply {
-        λ r. ⌜ r ≡ number (withStrategy (strategyCode strategy) (λ s. Window.windowCall s rows cols (now («valid_mask» .entry)) (now (db .entry)))) ⌝
+        λ r. ⌜ r ≡ number (withStrategy (strategyOf strategy) (λ s. Window.autoscaleWindow s rows cols (now («valid_mask» .entry)) (now (db .entry)))) ⌝
     }
     ensures blank {
-        λ _. ⌜ now (blank .exit) ≡ kept blankOf (withStrategy (strategyCode strategy) (λ s. Window.windowCall s rows cols (now («valid_mask» .entry)) (now (db .entry)))) (now (blank .entry)) ⌝
+        λ _. ⌜ now (blank .exit) ≡ kept blankOf (withStrategy (strategyOf strategy) (λ s. Window.autoscaleWindow s rows cols (now («valid_mask» .entry)) (now (db .entry)))) (now (blank .entry)) ⌝
     }
     ensures floats {
-        λ _. ⌜ now (floats .exit) ≡ after windowFloats (withStrategy (strategyCode strategy) (λ s. Window.windowCall s rows cols (now («valid_mask» .entry)) (now (db .entry)))) (now (floats .entry)) ⌝
+        λ _. ⌜ now (floats .exit) ≡ after windowFloats (withStrategy (strategyOf strategy) (λ s. Window.autoscaleWindow s rows cols (now («valid_mask» .entry)) (now (db .entry)))) (now (floats .entry)) ⌝
     }
 {
     let codes::StrategyCode::Names(strategy) = codes::strategy_of(strategy) else {

@@ -1,6 +1,6 @@
 // The codes of strategies and modes: their places in the order of types.rs.
 ghost use mathlib.Core.Path.{_≡_};
-ghost use Rattle.quicklook.specs.Codes.{strategyCode, modeCode};
+ghost use Rattle.quicklook.specs.Codes.{strategyOf, modeOf};
 use types::{AutoscaleStrategy, SyntheticRgbMode};
 
 pub enum StrategyCode {
@@ -15,7 +15,7 @@ pub enum ModeCode {
 
 // The strategy that a code names.
 pub fn strategy_of(code: u8) -> StrategyCode
-    ensures { λ r. ⌜ r ≡ strategyCode code ⌝ }
+    ensures { λ r. ⌜ r ≡ strategyOf code ⌝ }
 {
     match code {
         0 => StrategyCode::Names(AutoscaleStrategy::Standard),
@@ -31,7 +31,7 @@ pub fn strategy_of(code: u8) -> StrategyCode
 
 // The mode that a code names.
 pub fn mode_of(code: u8) -> ModeCode
-    ensures { λ r. ⌜ r ≡ modeCode code ⌝ }
+    ensures { λ r. ⌜ r ≡ modeOf code ⌝ }
 {
     match code {
         0 => ModeCode::Names(SyntheticRgbMode::Default),

@@ -2,11 +2,11 @@
 ghost use mathlib.Core.Path.{_≡_};
 ghost use lib.ListN.{length};
 ghost use Rattle.spec.specs.Answer.{number, after};
-ghost use Rattle.spec.specs.Colour.{bytesOf, composition};
-ghost use Rattle.spec.specs.Picture.{pictureOf};
+ghost use Rattle.spec.specs.Colour.{bytesOf, createSyntheticRgbByModeAndStrategy};
+ghost use Rattle.spec.specs.Picture.{syntheticRgbPicture};
 ghost use Rattle.pipeline.specs.Windows.{lentLengths};
 ghost use Rattle.pipeline.specs.Work.{Kept};
-ghost use Rattle.quicklook.specs.Codes.{strategyCode, modeCode, withStrategy, withMode, usesNamed};
+ghost use Rattle.quicklook.specs.Codes.{strategyOf, modeOf, withStrategy, withMode, usesNamed};
 use super::codes;
 use super::replies;
 
@@ -14,10 +14,10 @@ use super::replies;
 #[no_mangle]
 pub extern "C" fn quicklook_compose(mode: u8, strategy: u8, band1: &[u8], band2: &[u8], rgb: &mut [u8]) -> u8
     ensures reply {
-        λ r. ⌜ r ≡ number (withMode (modeCode mode) (λ m. withStrategy (strategyCode strategy) (λ s. composition m s (now (band1 .entry)) (now (band2 .entry)) (length (now (rgb .entry)))))) ⌝
+        λ r. ⌜ r ≡ number (withMode (modeOf mode) (λ m. withStrategy (strategyOf strategy) (λ s. createSyntheticRgbByModeAndStrategy m s (now (band1 .entry)) (now (band2 .entry)) (length (now (rgb .entry)))))) ⌝
     }
     ensures colours {
-        λ _. ⌜ now (rgb .exit) ≡ after (λ l. l) (withMode (modeCode mode) (λ m. withStrategy (strategyCode strategy) (λ s. composition m s (now (band1 .entry)) (now (band2 .entry)) (length (now (rgb .entry)))))) (now (rgb .entry)) ⌝
+        λ _. ⌜ now (rgb .exit) ≡ after (λ l. l) (withMode (modeOf mode) (λ m. withStrategy (strategyOf strategy) (λ s. createSyntheticRgbByModeAndStrategy m s (now (band1 .entry)) (now (band2 .entry)) (length (now (rgb .entry)))))) (now (rgb .entry)) ⌝
     }
 {
     let codes::ModeCode::Names(mode) = codes::mode_of(mode) else {
@@ -26,30 +26,30 @@ pub extern "C" fn quicklook_compose(mode: u8, strategy: u8, band1: &[u8], band2:
     let codes::StrategyCode::Names(strategy) = codes::strategy_of(strategy) else {
         return 255;
     };
-    replies::number_of(synthetic_rgb::create_synthetic_rgb_by_mode_and_strategy(mode, strategy, band1, band2, rgb))
+    replies::reply_number(synthetic_rgb::create_synthetic_rgb_by_mode_and_strategy(mode, strategy, band1, band2, rgb))
 }
 
 // The picture of two bands: two greys, then their colours. Band 1 counts as co-pol under Tamed.
 #[no_mangle]
 pub extern "C" fn quicklook_picture(strategy: u8, mode: u8, rows: usize, cols: usize, db1: &[f64], valid_mask1: &[u8], db2: &[f64], valid_mask2: &[u8], grey1: &mut [u8], grey2: &mut [u8], rgb: &mut [u8], work: &mut [f64]) -> u8
     ensures reply {
-        λ r. ⌜ r ≡ number (withStrategy (strategyCode strategy) (λ s. withMode (modeCode mode) (λ m. pictureOf s m rows cols (now («valid_mask1» .entry)) (now (db1 .entry)) (now («valid_mask2» .entry)) (now (db2 .entry))
+        λ r. ⌜ r ≡ number (withStrategy (strategyOf strategy) (λ s. withMode (modeOf mode) (λ m. syntheticRgbPicture s m rows cols (now («valid_mask1» .entry)) (now (db1 .entry)) (now («valid_mask2» .entry)) (now (db2 .entry))
             (lentLengths (length (now (grey1 .entry))) (length (now (grey2 .entry))) (length (now (rgb .entry))) (length (now (work .entry))))))) ⌝
     }
     ensures grey1 {
-        λ _. ⌜ now (grey1 .exit) ≡ after (λ p. p .grey1) (withStrategy (strategyCode strategy) (λ s. withMode (modeCode mode) (λ m. pictureOf s m rows cols (now («valid_mask1» .entry)) (now (db1 .entry)) (now («valid_mask2» .entry)) (now (db2 .entry))
+        λ _. ⌜ now (grey1 .exit) ≡ after (λ p. p .grey1) (withStrategy (strategyOf strategy) (λ s. withMode (modeOf mode) (λ m. syntheticRgbPicture s m rows cols (now («valid_mask1» .entry)) (now (db1 .entry)) (now («valid_mask2» .entry)) (now (db2 .entry))
             (lentLengths (length (now (grey1 .entry))) (length (now (grey2 .entry))) (length (now (rgb .entry))) (length (now (work .entry))))))) (now (grey1 .entry)) ⌝
     }
     ensures grey2 {
-        λ _. ⌜ now (grey2 .exit) ≡ after (λ p. p .grey2) (withStrategy (strategyCode strategy) (λ s. withMode (modeCode mode) (λ m. pictureOf s m rows cols (now («valid_mask1» .entry)) (now (db1 .entry)) (now («valid_mask2» .entry)) (now (db2 .entry))
+        λ _. ⌜ now (grey2 .exit) ≡ after (λ p. p .grey2) (withStrategy (strategyOf strategy) (λ s. withMode (modeOf mode) (λ m. syntheticRgbPicture s m rows cols (now («valid_mask1» .entry)) (now (db1 .entry)) (now («valid_mask2» .entry)) (now (db2 .entry))
             (lentLengths (length (now (grey1 .entry))) (length (now (grey2 .entry))) (length (now (rgb .entry))) (length (now (work .entry))))))) (now (grey2 .entry)) ⌝
     }
     ensures colours {
-        λ _. ⌜ now (rgb .exit) ≡ after (λ p. bytesOf (p .colours)) (withStrategy (strategyCode strategy) (λ s. withMode (modeCode mode) (λ m. pictureOf s m rows cols (now («valid_mask1» .entry)) (now (db1 .entry)) (now («valid_mask2» .entry)) (now (db2 .entry))
+        λ _. ⌜ now (rgb .exit) ≡ after (λ p. bytesOf (p .colours)) (withStrategy (strategyOf strategy) (λ s. withMode (modeOf mode) (λ m. syntheticRgbPicture s m rows cols (now («valid_mask1» .entry)) (now (db1 .entry)) (now («valid_mask2» .entry)) (now (db2 .entry))
             (lentLengths (length (now (grey1 .entry))) (length (now (grey2 .entry))) (length (now (rgb .entry))) (length (now (work .entry))))))) (now (rgb .entry)) ⌝
     }
     ensures work {
-        λ _. ⌜ Kept (usesNamed (strategyCode strategy) (withStrategy (strategyCode strategy) (λ s. withMode (modeCode mode) (λ m. pictureOf s m rows cols (now («valid_mask1» .entry)) (now (db1 .entry)) (now («valid_mask2» .entry)) (now (db2 .entry))
+        λ _. ⌜ Kept (usesNamed (strategyOf strategy) (withStrategy (strategyOf strategy) (λ s. withMode (modeOf mode) (λ m. syntheticRgbPicture s m rows cols (now («valid_mask1» .entry)) (now (db1 .entry)) (now («valid_mask2» .entry)) (now (db2 .entry))
             (lentLengths (length (now (grey1 .entry))) (length (now (grey2 .entry))) (length (now (rgb .entry))) (length (now (work .entry)))))))) (now (work .entry)) (now (work .exit)) ⌝
     }
 {
@@ -59,5 +59,5 @@ pub extern "C" fn quicklook_picture(strategy: u8, mode: u8, rows: usize, cols: u
     let codes::ModeCode::Names(mode) = codes::mode_of(mode) else {
         return 255;
     };
-    replies::number_of(pipeline::synthetic_rgb_picture(rows, cols, strategy, mode, db1, valid_mask1, db2, valid_mask2, grey1, grey2, rgb, work))
+    replies::reply_number(pipeline::synthetic_rgb_picture(rows, cols, strategy, mode, db1, valid_mask1, db2, valid_mask2, grey1, grey2, rgb, work))
 }

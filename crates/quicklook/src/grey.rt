@@ -2,9 +2,9 @@
 ghost use mathlib.Core.Path.{_≡_};
 ghost use lib.ListN.{length};
 ghost use Rattle.spec.specs.Answer.{number, after};
-ghost use Rattle.spec.specs.Grey.{grey8, grey16};
+ghost use Rattle.spec.specs.Grey.{autoscaleDbImageToU8, autoscaleDbImageToU16};
 ghost use Rattle.pipeline.specs.Work.{Kept};
-ghost use Rattle.quicklook.specs.Codes.{strategyCode, withStrategy, usesNamed};
+ghost use Rattle.quicklook.specs.Codes.{strategyOf, withStrategy, usesNamed};
 use super::codes;
 use super::replies;
 
@@ -12,36 +12,36 @@ use super::replies;
 #[no_mangle]
 pub extern "C" fn quicklook_grey_u8(strategy: u8, rows: usize, cols: usize, db: &[f64], valid_mask: &[u8], out: &mut [u8], work: &mut [f64]) -> u8
     ensures reply {
-        λ r. ⌜ r ≡ number (withStrategy (strategyCode strategy) (λ s. grey8 s rows cols (now («valid_mask» .entry)) (now (db .entry)) (length (now (out .entry))) (length (now (work .entry))))) ⌝
+        λ r. ⌜ r ≡ number (withStrategy (strategyOf strategy) (λ s. autoscaleDbImageToU8 s rows cols (now («valid_mask» .entry)) (now (db .entry)) (length (now (out .entry))) (length (now (work .entry))))) ⌝
     }
     ensures greys {
-        λ _. ⌜ now (out .exit) ≡ after (λ l. l) (withStrategy (strategyCode strategy) (λ s. grey8 s rows cols (now («valid_mask» .entry)) (now (db .entry)) (length (now (out .entry))) (length (now (work .entry))))) (now (out .entry)) ⌝
+        λ _. ⌜ now (out .exit) ≡ after (λ l. l) (withStrategy (strategyOf strategy) (λ s. autoscaleDbImageToU8 s rows cols (now («valid_mask» .entry)) (now (db .entry)) (length (now (out .entry))) (length (now (work .entry))))) (now (out .entry)) ⌝
     }
     ensures work {
-        λ _. ⌜ Kept (usesNamed (strategyCode strategy) (withStrategy (strategyCode strategy) (λ s. grey8 s rows cols (now («valid_mask» .entry)) (now (db .entry)) (length (now (out .entry))) (length (now (work .entry)))))) (now (work .entry)) (now (work .exit)) ⌝
+        λ _. ⌜ Kept (usesNamed (strategyOf strategy) (withStrategy (strategyOf strategy) (λ s. autoscaleDbImageToU8 s rows cols (now («valid_mask» .entry)) (now (db .entry)) (length (now (out .entry))) (length (now (work .entry)))))) (now (work .entry)) (now (work .exit)) ⌝
     }
 {
     let codes::StrategyCode::Names(strategy) = codes::strategy_of(strategy) else {
         return 255;
     };
-    replies::number_of(pipeline::autoscale_db_image_to_u8(rows, cols, strategy, db, valid_mask, out, work))
+    replies::reply_number(pipeline::autoscale_db_image_to_u8(rows, cols, strategy, db, valid_mask, out, work))
 }
 
 // At 16 bits.
 #[no_mangle]
 pub extern "C" fn quicklook_grey_u16(strategy: u8, rows: usize, cols: usize, db: &[f64], valid_mask: &[u8], out: &mut [u16], work: &mut [f64]) -> u8
     ensures reply {
-        λ r. ⌜ r ≡ number (withStrategy (strategyCode strategy) (λ s. grey16 s rows cols (now («valid_mask» .entry)) (now (db .entry)) (length (now (out .entry))) (length (now (work .entry))))) ⌝
+        λ r. ⌜ r ≡ number (withStrategy (strategyOf strategy) (λ s. autoscaleDbImageToU16 s rows cols (now («valid_mask» .entry)) (now (db .entry)) (length (now (out .entry))) (length (now (work .entry))))) ⌝
     }
     ensures greys {
-        λ _. ⌜ now (out .exit) ≡ after (λ l. l) (withStrategy (strategyCode strategy) (λ s. grey16 s rows cols (now («valid_mask» .entry)) (now (db .entry)) (length (now (out .entry))) (length (now (work .entry))))) (now (out .entry)) ⌝
+        λ _. ⌜ now (out .exit) ≡ after (λ l. l) (withStrategy (strategyOf strategy) (λ s. autoscaleDbImageToU16 s rows cols (now («valid_mask» .entry)) (now (db .entry)) (length (now (out .entry))) (length (now (work .entry))))) (now (out .entry)) ⌝
     }
     ensures work {
-        λ _. ⌜ Kept (usesNamed (strategyCode strategy) (withStrategy (strategyCode strategy) (λ s. grey16 s rows cols (now («valid_mask» .entry)) (now (db .entry)) (length (now (out .entry))) (length (now (work .entry)))))) (now (work .entry)) (now (work .exit)) ⌝
+        λ _. ⌜ Kept (usesNamed (strategyOf strategy) (withStrategy (strategyOf strategy) (λ s. autoscaleDbImageToU16 s rows cols (now («valid_mask» .entry)) (now (db .entry)) (length (now (out .entry))) (length (now (work .entry)))))) (now (work .entry)) (now (work .exit)) ⌝
     }
 {
     let codes::StrategyCode::Names(strategy) = codes::strategy_of(strategy) else {
         return 255;
     };
-    replies::number_of(pipeline::autoscale_db_image_to_u16(rows, cols, strategy, db, valid_mask, out, work))
+    replies::reply_number(pipeline::autoscale_db_image_to_u16(rows, cols, strategy, db, valid_mask, out, work))
 }

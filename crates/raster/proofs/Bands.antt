@@ -13,7 +13,7 @@ use lib.Ieee.{Float, nan}
 use Rattle.spec.specs.Answer.{firstOf}
 use Rattle.spec.specs.Lists.{any, countOf}
 use Rattle.spec.specs.Pixels.{Pixel, off, on, pixel, pixels, validOf, isOn}
-use Rattle.spec.specs.Refusals.{tooWide, unlike, notNamed, badMark}
+use Rattle.spec.specs.Refusals.{sidesRefused, unlike, lengthsRefused, marksRefused}
 
 -- ---- one pixel
 
@@ -72,8 +72,8 @@ or-false true b e = absurd (let z : _≡_ {A = ℕ} 0 1 = cc in omega arith)
 or-false false b e = (refl, e)
 
 -- the number of valid pixels is the number of 1 marks
-pub valid-ones : (m : List ℕ) (d : List Float) → length m ≡ length d → badMark m ≡ false → length (validOf (pixels m d)) ≡ countOf 1 m
-unfolding pixels pixel zipWith validOf badMark any countOf
+pub valid-ones : (m : List ℕ) (d : List Float) → length m ≡ length d → marksRefused m ≡ false → length (validOf (pixels m d)) ≡ countOf 1 m
+unfolding pixels pixel zipWith validOf marksRefused any countOf
 valid-ones [] d e b = refl
 valid-ones (k ∷ m) [] e b = absurd (omega (arith, e))
 valid-ones (zero ∷ m) (v ∷ d) e b = valid-ones m d (suc-inj e) b ∙ omega arith
@@ -90,16 +90,16 @@ any-valid (suc k ∷ m) (v ∷ d) e = rw (lt-ltb 0 (suc k) (omega arith))
 
 -- ---- what is known once a test has not refused
 
-pub sides-accepted : (rows cols : ℕ) → tooWide rows cols ≡ false → (rows ≤ 4096) × (cols ≤ 4096)
-unfolding tooWide
+pub sides-accepted : (rows cols : ℕ) → sidesRefused rows cols ≡ false → (rows ≤ 4096) × (cols ≤ 4096)
+unfolding sidesRefused
 sides-accepted rows cols e = let p = or-false (ltb 4096 rows) (ltb 4096 cols) e in (ltb-false 4096 rows (p .0), ltb-false 4096 cols (p .1))
 
 pub named : (n k : ℕ) → unlike n k ≡ false → n ≡ k
 unfolding unlike
 named n k e = eqb-true n k (not-false (eqb n k) e)
 
-pub lengths-accepted : (rows cols : ℕ) (m : List ℕ) (d : List Float) → notNamed rows cols m d ≡ false → (length d ≡ rows * cols) × (length m ≡ rows * cols)
-unfolding notNamed
+pub lengths-accepted : (rows cols : ℕ) (m : List ℕ) (d : List Float) → lengthsRefused rows cols m d ≡ false → (length d ≡ rows * cols) × (length m ≡ rows * cols)
+unfolding lengthsRefused
 lengths-accepted rows cols m d e =
     let p = or-false (unlike (length d) (rows * cols)) (unlike (length m) (rows * cols)) e in
     (named (length d) (rows * cols) (p .0), named (length m) (rows * cols) (p .1))
@@ -116,15 +116,15 @@ pub record Shaped (rows cols : ℕ) (m : List ℕ) (d : List Float) : Type 0 whe
   pub cols-most : cols ≤ 4096
   pub length-db : length d ≡ rows * cols
   pub length-marks : length m ≡ rows * cols
-  pub marks-good : badMark m ≡ false
+  pub marks-good : marksRefused m ≡ false
 
-pub shape-accepted : (rows cols : ℕ) (m : List ℕ) (d : List Float) → firstOf 1 (tooWide rows cols ∷ notNamed rows cols m d ∷ badMark m ∷ []) ≡ 0 → Shaped rows cols m d
+pub shape-accepted : (rows cols : ℕ) (m : List ℕ) (d : List Float) → firstOf 1 (sidesRefused rows cols ∷ lengthsRefused rows cols m d ∷ marksRefused m ∷ []) ≡ 0 → Shaped rows cols m d
 shape-accepted rows cols m d e =
-    let a = none-applies 0 (tooWide rows cols) (notNamed rows cols m d ∷ badMark m ∷ []) e in
-    let b = none-applies 1 (notNamed rows cols m d) (badMark m ∷ []) (a .1) in
+    let a = none-applies 0 (sidesRefused rows cols) (lengthsRefused rows cols m d ∷ marksRefused m ∷ []) e in
+    let b = none-applies 1 (lengthsRefused rows cols m d) (marksRefused m ∷ []) (a .1) in
     let s = sides-accepted rows cols (a .0) in
     let n = lengths-accepted rows cols m d (b .0) in
-    record { rows-most = s .0; cols-most = s .1; length-db = n .0; length-marks = n .1; marks-good = none-applies 2 (badMark m) [] (b .1) .0 }
+    record { rows-most = s .0; cols-most = s .1; length-db = n .0; length-marks = n .1; marks-good = none-applies 2 (marksRefused m) [] (b .1) .0 }
 
 -- a test that applies decides, and one that does not leaves it to the next
 pub first-here : (k : ℕ) (t : Bool) (ts : List Bool) → t ≡ true → firstOf k (t ∷ ts) ≡ k

@@ -7,11 +7,11 @@ ghost use lib.ListN.{length};
 ghost use Rattle.spec.specs.Answer.{firstOf};
 ghost use Rattle.spec.specs.Lists.{any, highest};
 ghost use Rattle.spec.specs.Pixels.{on, pixels};
-ghost use Rattle.spec.specs.Refusals.{tooWide, notNamed, badMark, badPixel, badDecibel};
+ghost use Rattle.spec.specs.Refusals.{sidesRefused, lengthsRefused, marksRefused, decibelRefused, decibelsRefused};
 
 // 1: whether a side is above 4,096.
 pub fn sides_refused(rows: usize, cols: usize) -> bool
-    ensures { λ r. ⌜ r ≡ tooWide rows cols ⌝ }
+    ensures { λ r. ⌜ r ≡ sidesRefused rows cols ⌝ }
 {
     if rows > 4096 {
         return true;
@@ -22,7 +22,7 @@ pub fn sides_refused(rows: usize, cols: usize) -> bool
 // 2: whether dB or marks are not rows × cols long.
 pub fn lengths_refused(rows: usize, cols: usize, db: &[f64], valid_mask: &[u8]) -> bool
     requires { ⌜ (rows ≤ 4096) × (cols ≤ 4096) ⌝ }
-    ensures { λ r. ⌜ r ≡ notNamed rows cols (now («valid_mask» .entry)) (now (db .entry)) ⌝ }
+    ensures { λ r. ⌜ r ≡ lengthsRefused rows cols (now («valid_mask» .entry)) (now (db .entry)) ⌝ }
 {
     let n = rows * cols;
     if db.len() != n {
@@ -49,14 +49,14 @@ pub fn greatest_mark(valid_mask: &[u8]) -> u8
 
 // 3: whether a mark is neither 0 nor 1.
 pub fn marks_refused(valid_mask: &[u8]) -> bool
-    ensures { λ r. ⌜ r ≡ badMark (now («valid_mask» .entry)) ⌝ }
+    ensures { λ r. ⌜ r ≡ marksRefused (now («valid_mask» .entry)) ⌝ }
 {
     greatest_mark(valid_mask) > 1
 }
 
 // Whether a dB is NaN, infinite, below -1000 or above 1000.
 pub fn decibel_refused(v: f64) -> bool
-    ensures { λ r. ⌜ r ≡ badPixel (on v) ⌝ }
+    ensures { λ r. ⌜ r ≡ decibelRefused (on v) ⌝ }
 {
     if v >= -1000.0 {
         if v <= 1000.0 {
@@ -69,7 +69,7 @@ pub fn decibel_refused(v: f64) -> bool
 // 4: whether a valid dB is refused. Only valid dB is read.
 pub fn decibels_refused(db: &[f64], valid_mask: &[u8]) -> bool
     requires { ⌜ length (now «valid_mask») ≡ length (now db) ⌝ }
-    ensures { λ r. ⌜ r ≡ badDecibel (pixels (now («valid_mask» .entry)) (now (db .entry))) ⌝ }
+    ensures { λ r. ⌜ r ≡ decibelsRefused (pixels (now («valid_mask» .entry)) (now (db .entry))) ⌝ }
 {
     let mut i: usize = 0;
     while i < db.len() {
@@ -100,7 +100,7 @@ pub fn any_valid(valid_mask: &[u8]) -> bool
 // The smallest of the numbers 1 to 3 that applies to a band, 0 if none does.
 pub fn shape_refusal(rows: usize, cols: usize, db: &[f64], valid_mask: &[u8]) -> u8
     ensures { λ r. ⌜ r ≡ firstOf 1 (
-        tooWide rows cols ∷ notNamed rows cols (now («valid_mask» .entry)) (now (db .entry)) ∷ badMark (now («valid_mask» .entry)) ∷ []) ⌝ }
+        sidesRefused rows cols ∷ lengthsRefused rows cols (now («valid_mask» .entry)) (now (db .entry)) ∷ marksRefused (now («valid_mask» .entry)) ∷ []) ⌝ }
 {
     if sides_refused(rows, cols) {
         return 1;
@@ -117,8 +117,8 @@ pub fn shape_refusal(rows: usize, cols: usize, db: &[f64], valid_mask: &[u8]) ->
 // The smallest of the numbers 1 to 4 that applies to a band, 0 if none does.
 pub fn band_refusal(rows: usize, cols: usize, db: &[f64], valid_mask: &[u8]) -> u8
     ensures { λ r. ⌜ r ≡ firstOf 1 (
-        tooWide rows cols ∷ notNamed rows cols (now («valid_mask» .entry)) (now (db .entry)) ∷ badMark (now («valid_mask» .entry))
-        ∷ badDecibel (pixels (now («valid_mask» .entry)) (now (db .entry))) ∷ []) ⌝ }
+        sidesRefused rows cols ∷ lengthsRefused rows cols (now («valid_mask» .entry)) (now (db .entry)) ∷ marksRefused (now («valid_mask» .entry))
+        ∷ decibelsRefused (pixels (now («valid_mask» .entry)) (now (db .entry))) ∷ []) ⌝ }
 {
     let refusal = shape_refusal(rows, cols, db, valid_mask);
     if refusal != 0 {

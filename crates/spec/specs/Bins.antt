@@ -2,7 +2,7 @@
 use Prim.Native.Nat.{ℕ, min}
 use mathlib.Core.List.{List}
 use lib.Ieee.{Float, binary64, sub, mul, ofBits, toUnsigned}
-use Rattle.spec.specs.Floats.{zero64, one64, held}
+use Rattle.spec.specs.Floats.{zero64, one64, clampFloat}
 use Rattle.spec.specs.Lists.{counts}
 
 -- 4096.0
@@ -11,7 +11,7 @@ bins64 = ofBits binary64 0x40b0_0000_0000_0000
 
 -- "bin = trunc(t × 4096) with t = (v - min) × inv held to 0..1; 4096 becomes 4095"
 unfoldable pub binOf : Float → Float → Float → ℕ
-binOf least inv v = min (toUnsigned 64 (mul binary64 (held zero64 one64 (mul binary64 (sub binary64 v least) inv)) bins64)) 4095
+binOf least inv v = min (toUnsigned 64 (mul binary64 (clampFloat zero64 one64 (mul binary64 (sub binary64 v least) inv)) bins64)) 4095
 
 -- how many of the values stand in each bin
 unfoldable pub histogram : List ℕ → List ℕ

@@ -5,7 +5,7 @@ use mathlib.Core.List.{List, [], _∷_, map, flatMap, zipWith}
 use lib.ListN.{length, getD, take, drop}
 use lib.Ieee.{Float, binary64, add, sub, mul, div, lt, ofBits, toUnsigned}
 use Rattle.types.specs.declared.TilePosition.{TilePosition}
-use Rattle.spec.specs.Floats.{zero64, half64, one64, two64, ofCount, larger, held, rounded}
+use Rattle.spec.specs.Floats.{zero64, half64, one64, two64, ofCount, maxFloat, clampFloat, roundAsU64}
 use Rattle.spec.specs.Lists.{places, placesFrom, counts, sumOf}
 use Rattle.spec.specs.Pixels.{Pixel, off, on, validOf}
 
@@ -34,7 +34,7 @@ tilePixels rows cols px ty tx =
 
 -- "bin = round(value × 255)"
 unfoldable pub levelOf : Float → ℕ
-levelOf u = min (rounded (mul binary64 (held zero64 one64 u) last64)) 255
+levelOf u = min (roundAsU64 (mul binary64 (clampFloat zero64 one64 u) last64)) 255
 
 -- how many valid pixels of a tile stand at each level
 unfoldable pub tileCounts : List Pixel → List ℕ
@@ -42,7 +42,7 @@ tileCounts tile = counts 256 (map levelOf (validOf tile))
 
 -- "Threshold = max(tile pixels/128, 1), invalid pixels counted": the limit 2.0 times the mean of 256 bins
 unfoldable pub threshold : ℕ → Float
-threshold area = larger (mul binary64 two64 (div binary64 (ofCount area) levels64)) one64
+threshold area = maxFloat (mul binary64 two64 (div binary64 (ofCount area) levels64)) one64
 
 -- "A bin above it becomes trunc(threshold) .."
 unfoldable pub clipped : Float → ℕ → ℕ
@@ -63,7 +63,7 @@ oneByOne (suc rest) (h ∷ hs) = (h + 1) ∷ oneByOne rest hs
 unfoldable pub shared : Float → List ℕ → List ℕ
 shared over hs =
     let each = toUnsigned 64 (div binary64 over levels64) in
-    oneByOne (rounded (sub binary64 over (mul binary64 (ofCount each) levels64))) (map (λ h. h + each) hs)
+    oneByOne (roundAsU64 (sub binary64 over (mul binary64 (ofCount each) levels64))) (map (λ h. h + each) hs)
 
 -- counts clipped at a threshold
 unfoldable pub clipAt : Float → List ℕ → List ℕ
@@ -83,11 +83,11 @@ tileTables rows cols px = map (tileTable rows cols px) (places 64)
 
 -- "Running sums over max(total, 1)", held to 0..1: the one at bin b
 unfoldable pub sumAt : List ℕ → ℕ → Float
-sumAt hs b = held zero64 one64 (div binary64 (ofCount (sumOf (take (suc b) hs))) (larger (ofCount (sumOf hs)) one64))
+sumAt hs b = clampFloat zero64 one64 (div binary64 (ofCount (sumOf (take (suc b) hs))) (maxFloat (ofCount (sumOf hs)) one64))
 
 -- "(row/side) - 0.5, tile index floored and not below 0, the weight may be negative at the top and left edges"
-unfoldable pub positionOf : ℕ → ℕ → TilePosition
-positionOf side i =
+unfoldable pub tilePosition : ℕ → ℕ → TilePosition
+tilePosition side i =
     let q = sub binary64 (div binary64 (ofCount i) (ofCount side)) half64 in
     let k = toUnsigned 64 q in
     record { position = q; first = min k 7; second = min (k + 1) 7; weight = sub binary64 q (ofCount k) }
@@ -108,7 +108,7 @@ sample tables y x b =
 unfoldable pub equalised : Float → ℕ → ℕ → List (List ℕ) → ℕ → Pixel → ℕ
 equalised full rows cols tables i off = 0
 equalised full rows cols tables i (on u) =
-    toUnsigned 64 (mul binary64 (held zero64 one64 (sample tables (positionOf (tileSide rows) (i / cols)) (positionOf (tileSide cols) (i % cols)) (levelOf u))) full)
+    toUnsigned 64 (mul binary64 (clampFloat zero64 one64 (sample tables (tilePosition (tileSide rows) (i / cols)) (tilePosition (tileSide cols) (i % cols)) (levelOf u))) full)
 
 unfoldable pub claheValues : Float → ℕ → ℕ → List Pixel → List ℕ
 claheValues full rows cols px = zipWith (equalised full rows cols (tileTables rows cols px)) (places (length px)) px

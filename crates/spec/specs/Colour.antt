@@ -67,15 +67,15 @@ firstLevel target before l (h ∷ hs) =
     cond (leb target (before + h)) l later
 
 -- "total = both lengths, target = (total + 10) div 20; .. plus 3, at most 40, is f"
-unfoldable pub floorOf : List ℕ → List ℕ → ℕ
-floorOf band1 band2 =
+unfoldable pub floorLevel : List ℕ → List ℕ → ℕ
+floorLevel band1 band2 =
     let target = (length band1 + length band2 + 10) / 20 in
     min (firstLevel target 0 0 (counts 256 (band1 ++ band2)) + 3) 40
 
 -- the colours of two bands, a pixel each
 unfoldable pub coloursOf : AutoscaleStrategy → List ℕ → List ℕ → List Rgb
 coloursOf strategy band1 band2 =
-    cond (isSuppressed strategy) (zipWith (suppressed (floorOf band1 band2)) band1 band2) (zipWith plain band1 band2)
+    cond (isSuppressed strategy) (zipWith (suppressed (floorLevel band1 band2)) band1 band2) (zipWith plain band1 band2)
 
 -- "colours 3n"
 unfoldable pub bytesOf : List Rgb → List ℕ
@@ -83,7 +83,7 @@ bytesOf [] = []
 bytesOf (c ∷ cs) = c .r ∷ c .g ∷ c .b ∷ bytesOf cs
 
 -- "Composition alone takes two bands of equal length under the same limit"; "all modes agree"
-unfoldable pub composition : SyntheticRgbMode → AutoscaleStrategy → List ℕ → List ℕ → ℕ → Answer (List ℕ)
-composition mode strategy band1 band2 out =
+unfoldable pub createSyntheticRgbByModeAndStrategy : SyntheticRgbMode → AutoscaleStrategy → List ℕ → List ℕ → ℕ → Answer (List ℕ)
+createSyntheticRgbByModeAndStrategy mode strategy band1 band2 out =
     let colours = bytesOf (coloursOf strategy band1 band2) in
     answer (firstOf 2 ((unlike (length band2) (length band1) || tooLong (length band1) || unlike out (3 * length band1)) ∷ [])) colours

@@ -8,18 +8,18 @@ use Rattle.types.specs.declared.WindowAnswer.{WindowAnswer}
 use Rattle.types.specs.declared.WindowAnswer.the-variants.{Window, Blank, Refused}
 use Rattle.spec.specs.Answer.{Answer, firstOf, answer}
 use Rattle.spec.specs.Pixels.{Pixel, off, on, pixels}
-use Rattle.spec.specs.Refusals.{tooWide, notNamed, unlike, workUnlike, badMark, badDecibel, badTiles}
+use Rattle.spec.specs.Refusals.{sidesRefused, lengthsRefused, unlike, workRefused, marksRefused, decibelsRefused, tilesRefused}
 use Rattle.spec.specs.Strategies.{isClahe}
 use Rattle.spec.specs.Statistics.{statisticsOf}
-use Rattle.spec.specs.Window.{windowOf, otherGamma}
-use Rattle.spec.specs.Value.{full8, full16, normalised, paint}
+use Rattle.spec.specs.Window.{windowOf, gammaRefused}
+use Rattle.spec.specs.Value.{full8, full16, normalized, paint}
 use Rattle.spec.specs.Stretch.{stretch}
 use Rattle.spec.specs.Clahe.{claheValues}
 
 -- a band as Clahe takes it
 unfoldable pub normalPixel : Float → Float → Float → Pixel → Pixel
 normalPixel low high range off = off
-normalPixel low high range (on v) = on (normalised low high range v)
+normalPixel low high range (on v) = on (normalized low high range v)
 
 -- "its pixels are 0"
 unfoldable pub black : List Pixel → List ℕ
@@ -37,19 +37,19 @@ values full strategy rows cols px (Window low high range gamma) =
 -- the six tests of a grey call
 unfoldable pub greyTests : AutoscaleStrategy → ℕ → ℕ → List ℕ → List Float → ℕ → ℕ → List Pixel → WindowAnswer → List Bool
 greyTests strategy rows cols marks db out work px w =
-    tooWide rows cols ∷ (notNamed rows cols marks db || unlike out (rows * cols) || workUnlike strategy work) ∷ badMark marks
-    ∷ badDecibel px ∷ badTiles strategy rows cols px ∷ otherGamma w ∷ []
+    sidesRefused rows cols ∷ (lengthsRefused rows cols marks db || unlike out (rows * cols) || workRefused strategy work) ∷ marksRefused marks
+    ∷ decibelsRefused px ∷ tilesRefused strategy rows cols px ∷ gammaRefused w ∷ []
 
 -- "At U8, `scale_u16_to_u8` then stretches all n bytes"; out and work are lent lengths
-unfoldable pub grey8 : AutoscaleStrategy → ℕ → ℕ → List ℕ → List Float → ℕ → ℕ → Answer (List ℕ)
-grey8 strategy rows cols marks db out work =
+unfoldable pub autoscaleDbImageToU8 : AutoscaleStrategy → ℕ → ℕ → List ℕ → List Float → ℕ → ℕ → Answer (List ℕ)
+autoscaleDbImageToU8 strategy rows cols marks db out work =
     let px = pixels marks db in
     let w = windowOf strategy (statisticsOf px) in
     let greys = stretch (values full8 strategy rows cols px w) in
     answer (firstOf 1 (greyTests strategy rows cols marks db out work px w)) greys
 
-unfoldable pub grey16 : AutoscaleStrategy → ℕ → ℕ → List ℕ → List Float → ℕ → ℕ → Answer (List ℕ)
-grey16 strategy rows cols marks db out work =
+unfoldable pub autoscaleDbImageToU16 : AutoscaleStrategy → ℕ → ℕ → List ℕ → List Float → ℕ → ℕ → Answer (List ℕ)
+autoscaleDbImageToU16 strategy rows cols marks db out work =
     let px = pixels marks db in
     let w = windowOf strategy (statisticsOf px) in
     let greys = values full16 strategy rows cols px w in

@@ -11,5 +11,5 @@ use Rattle.spec.specs.Refusals.{unlike, tooLong}
 unfoldable pub markOf : Float → ℕ
 markOf x = cond (lt (ofBits binary32 0x3727_c5ac) x) 1 0
 
-unfoldable pub marksCall : List Float → ℕ → Answer (List ℕ)
-marksCall xs out = answer (firstOf 2 ((tooLong (length xs) || unlike out (length xs)) ∷ [])) (map markOf xs)
+unfoldable pub processScalarDataMask : List Float → ℕ → Answer (List ℕ)
+processScalarDataMask xs out = answer (firstOf 2 ((tooLong (length xs) || unlike out (length xs)) ∷ [])) (map markOf xs)

@@ -6,7 +6,7 @@ use lib.Dec.{leb, ltb}
 use lib.ListN.{length, getD}
 use Rattle.spec.specs.Lists.{places}
 use Rattle.spec.specs.Answer.{Answer, firstOf, answer}
-use Rattle.spec.specs.Refusals.{tooWide, unlike}
+use Rattle.spec.specs.Refusals.{sidesRefused, unlike}
 
 -- what stands at row y and column x of the square
 unfoldable pub padCell : ℕ → ℕ → List ℕ → ℕ → ℕ → ℕ
@@ -19,7 +19,7 @@ unfoldable pub padded : ℕ → ℕ → List ℕ → List ℕ
 padded rows cols xs = let s = max rows cols in map (λ k. padCell rows cols xs (k / s) (k % s)) (places (s * s))
 
 -- "padding inputs .. n; padded output the square of the larger side"
-unfoldable pub paddingCall : ℕ → ℕ → List ℕ → ℕ → Answer (List ℕ)
-paddingCall rows cols xs out =
+unfoldable pub addPaddingToSquare : ℕ → ℕ → List ℕ → ℕ → Answer (List ℕ)
+addPaddingToSquare rows cols xs out =
     let square = padded rows cols xs in
-    answer (firstOf 1 (tooWide rows cols ∷ (unlike (length xs) (rows * cols) || unlike out (max rows cols * max rows cols)) ∷ [])) square
+    answer (firstOf 1 (sidesRefused rows cols ∷ (unlike (length xs) (rows * cols) || unlike out (max rows cols * max rows cols)) ∷ [])) square

@@ -9,17 +9,17 @@ use Rattle.types.specs.declared.Percentile.{Percentile}
 use Rattle.spec.specs.Floats.{ofCount}
 
 -- "target = floor(p × count), at most count - 1"
-unfoldable pub target : Float → ℕ → ℕ
-target p count = min (toUnsigned 64 (mul binary64 p (ofCount count))) (count - 1)
+unfoldable pub targetOf : Float → ℕ → ℕ
+targetOf p count = min (toUnsigned 64 (mul binary64 p (ofCount count))) (count - 1)
 
 -- a bin, "h its count and w the target less the count before it".
 -- "take the first bin whose running count exceeds the target": the bins from b on, the count before them. The last is taken if none does.
-unfoldable pub seek : ℕ → ℕ → ℕ → List ℕ → BinRank
-seek t before b [] = record { bin = b; size = 0; rank = t - before }
-seek t before b (h ∷ []) = record { bin = b; size = h; rank = t - before }
-seek t before b (h ∷ h′ ∷ hs) =
+unfoldable pub findBin : ℕ → ℕ → ℕ → List ℕ → BinRank
+findBin t before b [] = record { bin = b; size = 0; rank = t - before }
+findBin t before b (h ∷ []) = record { bin = b; size = h; rank = t - before }
+findBin t before b (h ∷ h′ ∷ hs) =
     let here : BinRank = record { bin = b; size = h; rank = t - before } in
-    let later : BinRank = seek t (before + h) (suc b) (h′ ∷ hs) in
+    let later : BinRank = findBin t (before + h) (suc b) (h′ ∷ hs) in
     cond (ltb t (before + h)) here later
 
 -- "the value is (min + bin × width) + (w/h) × width"
@@ -27,5 +27,5 @@ unfoldable pub valueAt : Float → Float → BinRank → Float
 valueAt least width r =
     add binary64 (add binary64 least (mul binary64 (ofCount (r .bin)) width)) (mul binary64 (div binary64 (ofCount (r .rank)) (ofCount (r .size))) width)
 
-unfoldable pub percentile : Float → Float → ℕ → List ℕ → Float → Percentile
-percentile least width count hist p = record { value = valueAt least width (seek (target p count) 0 0 hist) }
+unfoldable pub estimatePercentile : Float → Float → ℕ → List ℕ → Float → Percentile
+estimatePercentile least width count hist p = record { value = valueAt least width (findBin (targetOf p count) 0 0 hist) }

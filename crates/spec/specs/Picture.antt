@@ -9,10 +9,10 @@ use Rattle.types.specs.declared.Rgb.{Rgb}
 use Rattle.types.specs.declared.WindowAnswer.{WindowAnswer}
 use Rattle.spec.specs.Answer.{Answer, firstOf, answer}
 use Rattle.spec.specs.Pixels.{Pixel, pixels}
-use Rattle.spec.specs.Refusals.{tooWide, notNamed, unlike, workUnlike, badMark, badDecibel, badTiles}
+use Rattle.spec.specs.Refusals.{sidesRefused, lengthsRefused, unlike, workRefused, marksRefused, decibelsRefused, tilesRefused}
 use Rattle.spec.specs.Strategies.{isTamed}
 use Rattle.spec.specs.Statistics.{statisticsOf}
-use Rattle.spec.specs.Window.{pictureWindow, otherGamma}
+use Rattle.spec.specs.Window.{pictureWindow, gammaRefused}
 use Rattle.spec.specs.Value.{full8}
 use Rattle.spec.specs.Stretch.{stretch}
 use Rattle.spec.specs.Grey.{values}
@@ -45,18 +45,18 @@ composed strategy g1 g2 = record { grey1 = g1; grey2 = g2; colours = coloursOf s
 unfoldable pub pictureTests :
     AutoscaleStrategy → ℕ → ℕ → List ℕ → List Float → List ℕ → List Float → Lent → List Pixel → List Pixel → WindowAnswer → WindowAnswer → List Bool
 pictureTests strategy rows cols marks1 db1 marks2 db2 lent px1 px2 w1 w2 =
-    tooWide rows cols
-    ∷ (notNamed rows cols marks1 db1 || notNamed rows cols marks2 db2 || unlike (lent .grey1) (rows * cols)
-       || unlike (lent .grey2) (rows * cols) || unlike (lent .colours) (3 * (rows * cols)) || workUnlike strategy (lent .work))
-    ∷ (badMark marks1 || badMark marks2)
-    ∷ (badDecibel px1 || badDecibel px2)
-    ∷ (badTiles strategy rows cols px1 || badTiles strategy rows cols px2)
-    ∷ (otherGamma w1 || otherGamma w2)
+    sidesRefused rows cols
+    ∷ (lengthsRefused rows cols marks1 db1 || lengthsRefused rows cols marks2 db2 || unlike (lent .grey1) (rows * cols)
+       || unlike (lent .grey2) (rows * cols) || unlike (lent .colours) (3 * (rows * cols)) || workRefused strategy (lent .work))
+    ∷ (marksRefused marks1 || marksRefused marks2)
+    ∷ (decibelsRefused px1 || decibelsRefused px2)
+    ∷ (tilesRefused strategy rows cols px1 || tilesRefused strategy rows cols px2)
+    ∷ (gammaRefused w1 || gammaRefused w2)
     ∷ []
 
 -- "band 1 counts as co-pol under Tamed"
-unfoldable pub pictureOf : AutoscaleStrategy → SyntheticRgbMode → ℕ → ℕ → List ℕ → List Float → List ℕ → List Float → Lent → Answer Picture
-pictureOf strategy mode rows cols marks1 db1 marks2 db2 lent =
+unfoldable pub syntheticRgbPicture : AutoscaleStrategy → SyntheticRgbMode → ℕ → ℕ → List ℕ → List Float → List ℕ → List Float → Lent → Answer Picture
+syntheticRgbPicture strategy mode rows cols marks1 db1 marks2 db2 lent =
     let px1 = pixels marks1 db1 in
     let px2 = pixels marks2 db2 in
     let w1 = pictureWindow strategy true (statisticsOf px1) in

@@ -10,17 +10,17 @@ use Rattle.types.specs.declared.Percentile.{Percentile}
 use Rattle.types.specs.declared.StatisticsAnswer.{StatisticsAnswer}
 use Rattle.types.specs.declared.StatisticsAnswer.the-variants.{Statistics, Refused}
 use Rattle.spec.specs.Floats.{zero64, half64, one64, ofCount}
-use Rattle.spec.specs.Root.{root}
+use Rattle.spec.specs.Root.{sqrtFloat}
 use Rattle.spec.specs.Answer.{Answer, refused, done, firstOf, answer}
 use Rattle.spec.specs.Pixels.{Pixel, pixels, validOf}
-use Rattle.spec.specs.Refusals.{tooWide, notNamed, badMark, badDecibel}
+use Rattle.spec.specs.Refusals.{sidesRefused, lengthsRefused, marksRefused, decibelsRefused}
 use Rattle.spec.specs.Moments.{noMoments, momentsFrom}
 use Rattle.spec.specs.Bins.{bins64, binOf, histogram}
-use Rattle.spec.specs.Percentile.{percentile}
+use Rattle.spec.specs.Percentile.{estimatePercentile}
 
 -- "deviation = root of m2/count, 0 for count 1"
 unfoldable pub deviationOf : Moments → Float
-deviationOf s = cond (ltb 1 (s .count)) (root (div binary64 (s .m2) (ofCount (s .count)))) zero64
+deviationOf s = cond (ltb 1 (s .count)) (sqrtFloat (div binary64 (s .m2) (ofCount (s .count)))) zero64
 
 -- moments and percentiles as one record
 unfoldable pub gathered : Moments → (Float → Percentile) → HistogramStats
@@ -55,7 +55,7 @@ flat64 = ofBits binary64 0x3cb0_0000_0000_0000
 -- "inv = 1/span", the bins of the values, "width = span/4096"
 unfoldable pub spreadPercentile : Moments → Float → List Float → Float → Percentile
 spreadPercentile s span vs =
-    percentile (s .«min_db») (div binary64 span bins64) (s .count) (histogram (map (binOf (s .«min_db») (div binary64 one64 span)) vs))
+    estimatePercentile (s .«min_db») (div binary64 span bins64) (s .count) (histogram (map (binOf (s .«min_db») (div binary64 one64 span)) vs))
 
 -- "If max - min < 2^-52: .. no histogram. Else .."
 unfoldable pub summary : Moments → List Float → HistogramStats
@@ -74,11 +74,11 @@ unfoldable pub statisticsOf : List Pixel → HistogramStats
 statisticsOf px = summaryOf (validOf px)
 
 -- the statistics call: refusals 1 to 4, then the record
-unfoldable pub statisticsCall : ℕ → ℕ → List ℕ → List Float → Answer HistogramStats
-statisticsCall rows cols marks db =
+unfoldable pub computeHistogramStats : ℕ → ℕ → List ℕ → List Float → Answer HistogramStats
+computeHistogramStats rows cols marks db =
     let px = pixels marks db in
     let stats = statisticsOf px in
-    answer (firstOf 1 (tooWide rows cols ∷ notNamed rows cols marks db ∷ badMark marks ∷ badDecibel px ∷ [])) stats
+    answer (firstOf 1 (sidesRefused rows cols ∷ lengthsRefused rows cols marks db ∷ marksRefused marks ∷ decibelsRefused px ∷ [])) stats
 
 -- document 01's number and values for each case of the declared answer
 unfoldable pub readStatistics : StatisticsAnswer → Answer HistogramStats

@@ -6,7 +6,7 @@ use lib.Dec.{ltb}
 use lib.IntN.{pos}
 use lib.ListN.{length}
 use lib.Ieee.{Float, binary32, sub, mul, div, ofInt, ofBits}
-use Rattle.spec.specs.Floats.{rounded}
+use Rattle.spec.specs.Floats.{roundAsU64}
 use Rattle.spec.specs.Lists.{lowest, highest}
 use Rattle.spec.specs.Answer.{Answer, firstOf, answer}
 use Rattle.spec.specs.Refusals.{unlike, tooLong}
@@ -19,7 +19,7 @@ of16 x = ofInt binary32 (pos x)
 unfoldable pub stretchByte : ℕ → ℕ → ℕ → ℕ
 stretchByte lo hi x =
     let scale = div binary32 (ofBits binary32 0x437f_0000) (sub binary32 (of16 hi) (of16 lo)) in
-    let y = min (rounded (mul binary32 (sub binary32 (of16 x) (of16 lo)) scale)) 255 in
+    let y = min (roundAsU64 (mul binary32 (sub binary32 (of16 x) (of16 lo)) scale)) 255 in
     cond (ltb lo hi) y 0
 
 -- between the least and the greatest of all; a u16 is at most 65535
@@ -27,5 +27,5 @@ unfoldable pub stretch : List ℕ → List ℕ
 stretch xs = map (stretchByte (lowest 65535 xs) (highest 0 xs)) xs
 
 -- the stretch by itself: refusal 2
-unfoldable pub stretchCall : List ℕ → ℕ → Answer (List ℕ)
-stretchCall xs out = answer (firstOf 2 ((tooLong (length xs) || unlike out (length xs)) ∷ [])) (stretch xs)
+unfoldable pub scaleU16ToU8 : List ℕ → ℕ → Answer (List ℕ)
+scaleU16ToU8 xs out = answer (firstOf 2 ((tooLong (length xs) || unlike out (length xs)) ∷ [])) (stretch xs)

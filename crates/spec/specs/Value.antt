@@ -1,7 +1,7 @@
 -- The grey value of a pixel, before any stretch. Definitions only.
 use Prim.Native.Nat.{ℕ}
 use lib.Ieee.{Float, binary64, sub, mul, div, ofBits, toUnsigned}
-use Rattle.spec.specs.Floats.{zero64, held}
+use Rattle.spec.specs.Floats.{zero64, clampFloat}
 use Rattle.spec.specs.Pixels.{Pixel, off, on}
 
 -- 255.0, 65535.0
@@ -12,12 +12,12 @@ abbrev pub full16 : Float
 full16 = ofBits binary64 0x40ef_ffe0_0000_0000
 
 -- "max(v, low), then min with high; minus low; over range"
-unfoldable pub normalised : Float → Float → Float → Float → Float
-normalised low high range v = div binary64 (sub binary64 (held low high v) low) range
+unfoldable pub normalized : Float → Float → Float → Float → Float
+normalized low high range v = div binary64 (sub binary64 (clampFloat low high v) low) range
 
 -- "times 255 or 65535; held to 0..that; truncated"
 unfoldable pub valueOf : Float → Float → Float → Float → Float → ℕ
-valueOf full low high range v = toUnsigned 64 (held zero64 full (mul binary64 (normalised low high range v) full))
+valueOf full low high range v = toUnsigned 64 (clampFloat zero64 full (mul binary64 (normalized low high range v) full))
 
 -- "Invalid: 0"
 unfoldable pub paint : Float → Float → Float → Float → Pixel → ℕ

@@ -3,29 +3,29 @@ use Prim.Native.Nat.{ℕ}
 use mathlib.Core.List.{flatMap, zipWith}
 use lib.Count.{trailingZeros}
 use lib.Ieee.{span, climb, size, odd, units, round, neg, sum, add, sub, mul, div, lt, eq, le, ne, ofInt, toUnsigned, ofFields, ofBits, toBits}
-use Rattle.spec.specs.Floats.{magnitude, rounded}
-use Rattle.spec.specs.Root.{wholeRoot, rootOf, root}
+use Rattle.spec.specs.Floats.{absFloat, roundAsU64}
+use Rattle.spec.specs.Root.{wholeRoot, rootOf, sqrtFloat}
 use Rattle.spec.specs.Lists.{placesFrom, countOf, counts, stored, lowest, highest, sumOf, any}
 use Rattle.spec.specs.Strategies.{isClahe, isTamed}
 use Rattle.spec.specs.Answer.{firstOf, orRefused, answer, number, replyNumber, after}
 use Rattle.spec.specs.Pixels.{pixel, pixels, validOf, isOn}
-use Rattle.spec.specs.Refusals.{tooWide, unlike, notNamed, workUnlike, tooLong, badMark, badPixel, badDecibel, badSide, badTiles}
+use Rattle.spec.specs.Refusals.{sidesRefused, unlike, lengthsRefused, workRefused, tooLong, marksRefused, decibelRefused, decibelsRefused, sideRefused, tilesRefused}
 use Rattle.spec.specs.Moments.{noMoments, withValue, momentsFrom}
 use Rattle.spec.specs.Bins.{binOf, histogram}
-use Rattle.spec.specs.Percentile.{target, seek, valueAt, percentile}
-use Rattle.spec.specs.Statistics.{deviationOf, gathered, flatPercentile, spreadPercentile, summary, summaryOf, statisticsOf, statisticsCall, readStatistics}
-use Rattle.spec.specs.Window.{opened, inside, narrow, outlier, heavy, wide, normal, standard, robust, skewOf, tailOf, adaptive, chosen, windowOf, tamed, pictureWindow, otherGamma, readWindow, windowCall}
-use Rattle.spec.specs.Value.{normalised, valueOf, paint}
-use Rattle.spec.specs.Stretch.{stretchByte, stretch, stretchCall}
-use Rattle.spec.specs.Clahe.{tileSize, tilePixels, levelOf, tileCounts, threshold, clipped, excess, oneByOne, shared, clipAt, clip, tileTable, tileTables, sumAt, positionOf, blend, sample, equalised, claheValues}
-use Rattle.spec.specs.Colour.{reached, red, green, blue, redAbove, greenAbove, blueAbove, plain, suppressed, firstLevel, floorOf, coloursOf, bytesOf, composition}
-use Rattle.spec.specs.Grey.{normalPixel, black, values, greyTests, grey8, grey16}
-use Rattle.spec.specs.Picture.{pictureGreys, composed, pictureTests, pictureOf}
-use Rattle.spec.specs.Padding.{padCell, padded, paddingCall}
-use Rattle.spec.specs.Ops.{sumOp, differenceOp, guarded, ratioOp, logRatioOp, normalisedOp, opCall}
-use Rattle.spec.specs.Marks.{markOf, marksCall}
+use Rattle.spec.specs.Percentile.{targetOf, findBin, valueAt, estimatePercentile}
+use Rattle.spec.specs.Statistics.{deviationOf, gathered, flatPercentile, spreadPercentile, summary, summaryOf, statisticsOf, computeHistogramStats, readStatistics}
+use Rattle.spec.specs.Window.{opened, validRange, lowContrastClip, outlier, heavyTailedClip, highRangeClip, normalClip, standardClip, robustClip, skewFactor, tailHeaviness, adaptiveClip, chooseClip, windowOf, tamedClip, pictureWindow, gammaRefused, readWindow, autoscaleWindow}
+use Rattle.spec.specs.Value.{normalized, valueOf, paint}
+use Rattle.spec.specs.Stretch.{stretchByte, stretch, scaleU16ToU8}
+use Rattle.spec.specs.Clahe.{tileSize, tilePixels, levelOf, tileCounts, threshold, clipped, excess, oneByOne, shared, clipAt, clip, tileTable, tileTables, sumAt, tilePosition, blend, sample, equalised, claheValues}
+use Rattle.spec.specs.Colour.{reached, red, green, blue, redAbove, greenAbove, blueAbove, plain, suppressed, firstLevel, floorLevel, coloursOf, bytesOf, createSyntheticRgbByModeAndStrategy}
+use Rattle.spec.specs.Grey.{normalPixel, black, values, greyTests, autoscaleDbImageToU8, autoscaleDbImageToU16}
+use Rattle.spec.specs.Picture.{pictureGreys, composed, pictureTests, syntheticRgbPicture}
+use Rattle.spec.specs.Padding.{padCell, padded, addPaddingToSquare}
+use Rattle.spec.specs.Ops.{sumOp, differenceOp, guardedRatio, ratioOp, logRatioOp, normalizedDiffOp, operateArrays}
+use Rattle.spec.specs.Marks.{markOf, processScalarDataMask}
 use Rattle.spec.specs.Places.{movedPicture}
 
 unfoldable pub computing : ℕ
-unfolding flatMap zipWith trailingZeros span climb size odd units round neg sum add sub mul div lt eq le ne ofInt toUnsigned ofFields ofBits toBits magnitude rounded wholeRoot rootOf root placesFrom countOf counts stored lowest highest sumOf any isClahe isTamed firstOf orRefused answer number replyNumber after pixel pixels validOf isOn tooWide unlike notNamed workUnlike tooLong badMark badPixel badDecibel badSide badTiles noMoments withValue momentsFrom binOf histogram target seek valueAt percentile deviationOf gathered flatPercentile spreadPercentile summary summaryOf statisticsOf statisticsCall readStatistics opened inside narrow outlier heavy wide normal standard robust skewOf tailOf adaptive chosen windowOf tamed pictureWindow otherGamma readWindow windowCall normalised valueOf paint stretchByte stretch stretchCall tileSize tilePixels levelOf tileCounts threshold clipped excess oneByOne shared clipAt clip tileTable tileTables sumAt positionOf blend sample equalised claheValues reached red green blue redAbove greenAbove blueAbove plain suppressed firstLevel floorOf coloursOf bytesOf composition normalPixel black values greyTests grey8 grey16 pictureGreys composed pictureTests pictureOf padCell padded paddingCall sumOp differenceOp guarded ratioOp logRatioOp normalisedOp opCall markOf marksCall movedPicture
+unfolding flatMap zipWith trailingZeros span climb size odd units round neg sum add sub mul div lt eq le ne ofInt toUnsigned ofFields ofBits toBits absFloat roundAsU64 wholeRoot rootOf sqrtFloat placesFrom countOf counts stored lowest highest sumOf any isClahe isTamed firstOf orRefused answer number replyNumber after pixel pixels validOf isOn sidesRefused unlike lengthsRefused workRefused tooLong marksRefused decibelRefused decibelsRefused sideRefused tilesRefused noMoments withValue momentsFrom binOf histogram targetOf findBin valueAt estimatePercentile deviationOf gathered flatPercentile spreadPercentile summary summaryOf statisticsOf computeHistogramStats readStatistics opened validRange lowContrastClip outlier heavyTailedClip highRangeClip normalClip standardClip robustClip skewFactor tailHeaviness adaptiveClip chooseClip windowOf tamedClip pictureWindow gammaRefused readWindow autoscaleWindow normalized valueOf paint stretchByte stretch scaleU16ToU8 tileSize tilePixels levelOf tileCounts threshold clipped excess oneByOne shared clipAt clip tileTable tileTables sumAt tilePosition blend sample equalised claheValues reached red green blue redAbove greenAbove blueAbove plain suppressed firstLevel floorLevel coloursOf bytesOf createSyntheticRgbByModeAndStrategy normalPixel black values greyTests autoscaleDbImageToU8 autoscaleDbImageToU16 pictureGreys composed pictureTests syntheticRgbPicture padCell padded addPaddingToSquare sumOp differenceOp guardedRatio ratioOp logRatioOp normalizedDiffOp operateArrays markOf processScalarDataMask movedPicture
 computing = 0

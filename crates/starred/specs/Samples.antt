@@ -11,25 +11,25 @@ use Rattle.types.specs.declared.SyntheticRgbMode.the-variants.{Default as Plain
 use Rattle.spec.specs.Floats.{zero64, half64, ofCount}
 use Rattle.spec.specs.Answer.{Answer, refused, done, number}
 use Rattle.spec.specs.Pixels.{pixels}
-use Rattle.spec.specs.Statistics.{statisticsOf, statisticsCall}
-use Rattle.spec.specs.Grey.{grey8, grey16}
-use Rattle.spec.specs.Stretch.{stretchCall}
-use Rattle.spec.specs.Colour.{composition, floorOf}
-use Rattle.spec.specs.Padding.{paddingCall}
-use Rattle.spec.specs.Marks.{marksCall}
+use Rattle.spec.specs.Statistics.{statisticsOf, computeHistogramStats}
+use Rattle.spec.specs.Grey.{autoscaleDbImageToU8, autoscaleDbImageToU16}
+use Rattle.spec.specs.Stretch.{scaleU16ToU8}
+use Rattle.spec.specs.Colour.{createSyntheticRgbByModeAndStrategy, floorLevel}
+use Rattle.spec.specs.Padding.{addPaddingToSquare}
+use Rattle.spec.specs.Marks.{processScalarDataMask}
 
 -- one row, every mark 1
 abbrev pub stats : List Float → HistogramStats
 stats db = statisticsOf (pixels (replicate (length db) 1) db)
 
 abbrev pub statistics : List Float → Answer HistogramStats
-statistics db = statisticsCall 1 (length db) (replicate (length db) 1) db
+statistics db = computeHistogramStats 1 (length db) (replicate (length db) 1) db
 
 abbrev pub u8 : AutoscaleStrategy → List Float → Answer (List ℕ)
-u8 strategy db = grey8 strategy 1 (length db) (replicate (length db) 1) db (length db) 0
+u8 strategy db = autoscaleDbImageToU8 strategy 1 (length db) (replicate (length db) 1) db (length db) 0
 
 abbrev pub u16 : AutoscaleStrategy → List Float → Answer (List ℕ)
-u16 strategy db = grey16 strategy 1 (length db) (replicate (length db) 1) db (length db) 0
+u16 strategy db = autoscaleDbImageToU16 strategy 1 (length db) (replicate (length db) 1) db (length db) 0
 
 -- all eleven
 abbrev pub percentiles : HistogramStats → List Float
@@ -37,10 +37,10 @@ percentiles s = s .«median_db» ∷ s .p01 ∷ s .p02 ∷ s .p05 ∷ s .p10 ∷
 
 -- the colour of one pixel, by default and suppressed
 abbrev pub colour : ℕ → ℕ → Answer (List ℕ)
-colour v1 v2 = composition Plain Default (v1 ∷ []) (v2 ∷ []) 3
+colour v1 v2 = createSyntheticRgbByModeAndStrategy Plain Default (v1 ∷ []) (v2 ∷ []) 3
 
 abbrev pub above : ℕ → ℕ → Answer (List ℕ)
-above v1 v2 = composition Plain Tamed (v1 ∷ []) (v2 ∷ []) 3
+above v1 v2 = createSyntheticRgbByModeAndStrategy Plain Tamed (v1 ∷ []) (v2 ∷ []) 3
 
 -- -12.5
 abbrev pub deep : Float
@@ -68,14 +68,14 @@ pub record Starred : Type 0 where
   pub forty-one-u8 : u8 Standard (ofCount 0 ∷ ofCount 41 ∷ []) ≡ refused 6
   pub forty-one-u16 : u16 Standard (ofCount 0 ∷ ofCount 41 ∷ []) ≡ refused 6
   -- "Stretch 0, 1, 2: 0, 128, 255. 7, 7, 7: zeros"
-  pub stretch-012 : stretchCall (0 ∷ 1 ∷ 2 ∷ []) 3 ≡ done (0 ∷ 128 ∷ 255 ∷ [])
-  pub stretch-777 : stretchCall (7 ∷ 7 ∷ 7 ∷ []) 3 ≡ done (0 ∷ 0 ∷ 0 ∷ [])
+  pub stretch-012 : scaleU16ToU8 (0 ∷ 1 ∷ 2 ∷ []) 3 ≡ done (0 ∷ 128 ∷ 255 ∷ [])
+  pub stretch-777 : scaleU16ToU8 (7 ∷ 7 ∷ 7 ∷ []) 3 ≡ done (0 ∷ 0 ∷ 0 ∷ [])
   -- "Default (255,255): 255, 255, 61. (255,1): 255, 2, 99. (1,1): 5, 2, 67"
   pub colour-full : colour 255 255 ≡ done (255 ∷ 255 ∷ 61 ∷ [])
   pub colour-red : colour 255 1 ≡ done (255 ∷ 2 ∷ 99 ∷ [])
   pub colour-dark : colour 1 1 ≡ done (5 ∷ 2 ∷ 67 ∷ [])
   -- "Suppressed, one pixel, f = 3: (255,255): 255, 255, 46. (255,3): 255, 0, 65. (4,4): 0, 1, 45"
-  pub above-floor : floorOf (255 ∷ []) (255 ∷ []) ≡ 3
+  pub above-floor : floorLevel (255 ∷ []) (255 ∷ []) ≡ 3
   pub above-full : above 255 255 ≡ done (255 ∷ 255 ∷ 46 ∷ [])
   pub above-red : above 255 3 ≡ done (255 ∷ 0 ∷ 65 ∷ [])
   pub above-dark : above 4 4 ≡ done (0 ∷ 1 ∷ 45 ∷ [])
@@ -87,9 +87,9 @@ pub record Unstarred : Type 0 where
   -- "(3,255): 0, 255, 32"
   pub above-green : above 3 255 ≡ done (0 ∷ 255 ∷ 32 ∷ [])
   -- "Four pixels of 200 in both bands: f = 3; five: f = 40"
-  pub four : floorOf (replicate 4 200) (replicate 4 200) ≡ 3
-  pub five : floorOf (replicate 5 200) (replicate 5 200) ≡ 40
+  pub four : floorLevel (replicate 4 200) (replicate 4 200) ≡ 3
+  pub five : floorLevel (replicate 5 200) (replicate 5 200) ≡ 40
   -- "Pad 1 row 1, 2: 1, 2, 0, 0"
-  pub pad : paddingCall 1 2 (1 ∷ 2 ∷ []) 4 ≡ done (1 ∷ 2 ∷ 0 ∷ 0 ∷ [])
+  pub pad : addPaddingToSquare 1 2 (1 ∷ 2 ∷ []) 4 ≡ done (1 ∷ 2 ∷ 0 ∷ 0 ∷ [])
   -- "Marks: 3727C5AC gives 0, 3727C5AD gives 1"
-  pub marks : marksCall (map (ofBits binary32) (0x3727_c5ac ∷ 0x3727_c5ad ∷ [])) 2 ≡ done (0 ∷ 1 ∷ [])
+  pub marks : processScalarDataMask (map (ofBits binary32) (0x3727_c5ac ∷ 0x3727_c5ad ∷ [])) 2 ≡ done (0 ∷ 1 ∷ [])

@@ -6,7 +6,7 @@ use Prim.Native.Nat.{ℕ, _<_}
 use lib.Dec.{T, eqb, eqb→eq}
 use lib.ListN.{getD, replicate}
 use lib.Ieee.{sub, mul, div, round, ofInt, ofBits}
-use Rattle.spec.specs.Floats.{rounded}
+use Rattle.spec.specs.Floats.{roundAsU64}
 use Rattle.spec.specs.Stretch.{stretchByte}
 use Rattle.lists.proofs.Table.{every, at}
 use Rattle.stretch.proofs.Loops.{map-agree}
@@ -16,7 +16,7 @@ abbrev same : ℕ → ℕ → Bool
 same k x = eqb (stretchByte 0 255 k) k
 
 all-same : T (every same 0 (replicate 256 0))
-unfolding stretchByte rounded sub mul div round ofInt ofBits
+unfolding stretchByte roundAsU64 sub mul div round ofInt ofBits
 all-same = tt
 
 pub full-byte : (k : ℕ) → k < 256 → stretchByte 0 255 k ≡ k

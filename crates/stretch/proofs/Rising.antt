@@ -15,7 +15,7 @@ use lib.Ieee.Nearest.{div-mono}
 use lib.Ieee.Order.{round-mono}
 use lib.Ieee.Positive.{num, den, den-pos, positive, positive-finite, between}
 use lib.Ieee.Scale.{finite}
-use Rattle.spec.specs.Floats.{rounded}
+use Rattle.spec.specs.Floats.{roundAsU64}
 use Rattle.spec.specs.Stretch.{of16, stretchByte}
 use Rattle.numeric.proofs.Order.{plus, less, le→cross, only-top, none}
 use Rattle.numeric.proofs.Round.{Rounds, rounds-le}
@@ -35,24 +35,24 @@ half-mono a c b d C D h = div-mono (a * 2 + c) (c * 2) (b * 2 + d) (d * 2) (mul-
     wide : (a c b d : ℕ) → a * d ≤ b * c → (a * 2 + c) * (d * 2) ≤ (b * 2 + d) * (c * 2)
     wide a c b d h = simp (add-mul, mul-assoc, mul-comm, mul-left-comm) (omega (arith, simp (mul-comm) at h))
 
-pub rounded-le : (x y : Float) → T (le x y) → rounded x ≤ rounded y
-unfolding rounded le
-rounded-le nan y h = absurd h
-rounded-le (inf true) y h = zero-le
-rounded-le (inf false) y h = subst (λ (z : Float). 2 ^ 64 - 1 ≤ rounded z) (sym (only-top y h)) (omega arith)
-rounded-le (fin s m e) nan h = absurd h
-rounded-le (fin s m e) (inf true) h = absurd h
-rounded-le (fin true m e) (inf false) h = zero-le
-rounded-le (fin false m e) (inf false) h = omega arith
-rounded-le (fin true m e) (fin t n d) h = zero-le
-rounded-le (fin false m e) (fin true n d) h =
+pub roundAsU64-le : (x y : Float) → T (le x y) → roundAsU64 x ≤ roundAsU64 y
+unfolding roundAsU64 le
+roundAsU64-le nan y h = absurd h
+roundAsU64-le (inf true) y h = zero-le
+roundAsU64-le (inf false) y h = subst (λ (z : Float). 2 ^ 64 - 1 ≤ roundAsU64 z) (sym (only-top y h)) (omega arith)
+roundAsU64-le (fin s m e) nan h = absurd h
+roundAsU64-le (fin s m e) (inf true) h = absurd h
+roundAsU64-le (fin true m e) (inf false) h = zero-le
+roundAsU64-le (fin false m e) (inf false) h = omega arith
+roundAsU64-le (fin true m e) (fin t n d) h = zero-le
+roundAsU64-le (fin false m e) (fin true n d) h =
     let k = le→cross (fin false m e) (fin true n d) tt tt h in
     let a : halfUp (m * up e) (down e) ≤ halfUp 0 1 = half-mono (m * up e) (down e) 0 1 (down-pos e) (lit< tt) (nothing (m * up e) (down d) (down-pos d) (omega arith)) in
     omega arith
   where
     nothing : (a c : ℕ) → 0 < c → a * c ≤ 0 → a * 1 ≤ 0 * down e
     nothing a c C g = let z = none a c C g in omega arith
-rounded-le (fin false m e) (fin false n d) h =
+roundAsU64-le (fin false m e) (fin false n d) h =
     let k = le→cross (fin false m e) (fin false n d) tt tt h in
     let a = half-mono (m * up e) (down e) (n * up d) (down d) (down-pos e) (down-pos d) (omega arith) in
     omega arith
@@ -154,11 +154,11 @@ scale-positive lo hi h k =
     between least32 (div binary32 full32 d) full32 tt tt (over-ge d p high) (over-le d p low)
 
 -- where lo is below hi
-rising : (lo hi x y : ℕ) → lo < hi → hi ≤ 65535 → x ≤ y → min (rounded (scaled lo hi x)) 255 ≤ min (rounded (scaled lo hi y)) 255
+rising : (lo hi x y : ℕ) → lo < hi → hi ≤ 65535 → x ≤ y → min (roundAsU64 (scaled lo hi x)) 255 ≤ min (roundAsU64 (scaled lo hi y)) 255
 rising lo hi x y h k g =
     let q = div binary32 full32 (sub binary32 (of16 hi) (of16 lo)) in
     let a = sub-le binary32 (of16 lo) (parts (of16 lo) lo (whole-value lo (omega arith)) .0) (of16 x) (of16 y) (ofInt-le x y g) in
-    let r = rounded-le (scaled lo hi x) (scaled lo hi y) (mul-le binary32 q (scale-positive lo hi h k) (sub binary32 (of16 x) (of16 lo)) (sub binary32 (of16 y) (of16 lo)) a) in
+    let r = roundAsU64-le (scaled lo hi x) (scaled lo hi y) (mul-le binary32 q (scale-positive lo hi h k) (sub binary32 (of16 x) (of16 lo)) (sub binary32 (of16 y) (of16 lo)) a) in
     omega arith
 
 -- Of two values the larger is stretched to no smaller byte, between any ends of a u16.
@@ -166,7 +166,7 @@ pub stretch-rises : (lo hi x y : ℕ) → hi ≤ 65535 → x ≤ y → stretchBy
 unfolding stretchByte
 stretch-rises lo hi x y k g = go (ltb lo hi) refl
   where
-    go : (t : Bool) → ltb lo hi ≡ t → cond t (min (rounded (scaled lo hi x)) 255) 0 ≤ cond t (min (rounded (scaled lo hi y)) 255) 0
+    go : (t : Bool) → ltb lo hi ≡ t → cond t (min (roundAsU64 (scaled lo hi x)) 255) 0 ≤ cond t (min (roundAsU64 (scaled lo hi y)) 255) 0
     go true e = rising lo hi x y (ltb-true lo hi e) k g
     go false e = zero-le
 
@@ -175,6 +175,6 @@ pub stretch-byte : (lo hi x : ℕ) → stretchByte lo hi x ≤ 255
 unfolding stretchByte
 stretch-byte lo hi x = go (ltb lo hi)
   where
-    go : (t : Bool) → cond t (min (rounded (scaled lo hi x)) 255) 0 ≤ 255
+    go : (t : Bool) → cond t (min (roundAsU64 (scaled lo hi x)) 255) 0 ≤ 255
     go true = omega arith
     go false = zero-le

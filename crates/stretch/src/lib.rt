@@ -5,14 +5,14 @@ ghost use mathlib.Core.List.{map};
 ghost use Prim.Native.Nat.{_+_, _≤_, min, max};
 ghost use lib.ListN.{length, getD};
 ghost use Rattle.spec.specs.Answer.{number, replyNumber, after};
-ghost use Rattle.spec.specs.Floats.{rounded};
+ghost use Rattle.spec.specs.Floats.{roundAsU64};
 ghost use Rattle.spec.specs.Lists.{lowest, highest};
-ghost use Rattle.spec.specs.Stretch.{stretchByte, stretchCall};
+ghost use Rattle.spec.specs.Stretch.{stretchByte, scaleU16ToU8};
 ghost use Rattle.stretch.specs.Tables.{Stretches};
 
 // z to the nearest whole number, half away from zero, held to 0..255.
 fn round_byte(z: f32) -> u8
-    ensures { λ r. ⌜ r ≡ min (rounded z) 255 ⌝ }
+    ensures { λ r. ⌜ r ≡ min (roundAsU64 z) 255 ⌝ }
 {
     let n = numeric::round_f32_as_u64(z);
     if n < 255 { n as u8 } else { 255 }
@@ -119,8 +119,8 @@ fn stretch_by_table(data: &[u16], lo: u16, hi: u16, out: &mut [u8])
 
 // The stretch by itself: refused with 2 unless the lengths are equal and at most 16,777,216.
 pub fn scale_u16_to_u8(data: &[u16], out: &mut [u8]) -> Reply
-    ensures { λ r. ⌜ replyNumber r ≡ number (stretchCall (now («data» .entry)) (length (now (out .entry)))) ⌝ }
-    ensures { λ _. ⌜ now (out .exit) ≡ after (λ l. l) (stretchCall (now («data» .entry)) (length (now (out .entry)))) (now (out .entry)) ⌝ }
+    ensures { λ r. ⌜ replyNumber r ≡ number (scaleU16ToU8 (now («data» .entry)) (length (now (out .entry)))) ⌝ }
+    ensures { λ _. ⌜ now (out .exit) ≡ after (λ l. l) (scaleU16ToU8 (now («data» .entry)) (length (now (out .entry)))) (now (out .entry)) ⌝ }
 {
     if data.len() > 16777216 {
         return Reply::Refused(2);

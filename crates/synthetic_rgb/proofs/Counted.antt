@@ -10,7 +10,7 @@ use lib.ListN.{length, drop, set, getD, replicate, drop-of-length-le}
 use lib.Seq.{drop-cons}
 use Rattle.lists.proofs.Counts.{Below}
 use Rattle.spec.specs.Lists.{added, stored}
-use Rattle.spec.specs.Colour.{firstLevel, floorOf}
+use Rattle.spec.specs.Colour.{firstLevel, floorLevel}
 
 -- ---- storing
 
@@ -72,6 +72,6 @@ zeros-at (suc n) zero = refl
 zeros-at (suc n) (suc k) = zeros-at n k
 
 -- the floor of any two bands has its tables
-pub floor-range : (band1 band2 : List ℕ) → (3 ≤ floorOf band1 band2) × (floorOf band1 band2 ≤ 40)
-unfolding floorOf
+pub floor-range : (band1 band2 : List ℕ) → (3 ≤ floorLevel band1 band2) × (floorLevel band1 band2 ≤ 40)
+unfolding floorLevel
 floor-range band1 band2 = (omega arith, omega arith)

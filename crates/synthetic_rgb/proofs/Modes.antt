@@ -4,9 +4,9 @@ use mathlib.Core.List.{List}
 use Prim.Native.Nat.{ℕ}
 use Rattle.types.specs.declared.AutoscaleStrategy.{AutoscaleStrategy}
 use Rattle.types.specs.declared.SyntheticRgbMode.{SyntheticRgbMode}
-use Rattle.spec.specs.Colour.{composition}
+use Rattle.spec.specs.Colour.{createSyntheticRgbByModeAndStrategy}
 
 pub modes-agree : (mode mode′ : SyntheticRgbMode) (strategy : AutoscaleStrategy) (band1 band2 : List ℕ) (out : ℕ) →
-    composition mode strategy band1 band2 out ≡ composition mode′ strategy band1 band2 out
-unfolding composition
+    createSyntheticRgbByModeAndStrategy mode strategy band1 band2 out ≡ createSyntheticRgbByModeAndStrategy mode′ strategy band1 band2 out
+unfolding createSyntheticRgbByModeAndStrategy
 modes-agree mode mode′ strategy band1 band2 out = refl

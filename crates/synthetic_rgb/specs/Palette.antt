@@ -21,9 +21,9 @@ greenOf Plain v = green v
 greenOf (Suppressed f) v = greenAbove f v
 
 -- what is added to both sides of the ratio of red to green
-abbrev pub epsilonOf : Composition → ℕ
-epsilonOf Plain = 0
-epsilonOf (Suppressed f) = 8
+abbrev pub epsilon : Composition → ℕ
+epsilon Plain = 0
+epsilon (Suppressed f) = 8
 
 -- twenty times the blue of an even ratio before rounding: 61.2, and 45.9 suppressed
 unfoldable pub scaleOf : Composition → ℕ
@@ -31,24 +31,24 @@ scaleOf Plain = 1224
 scaleOf (Suppressed f) = 918
 
 -- the pixels without blue: "0 if v2 = 0"; "Both bytes at most f"
-abbrev pub darkOf : Composition → ℕ → ℕ → Bool
-darkOf Plain v1 v2 = eqb v2 0
-darkOf (Suppressed f) v1 v2 = leb v1 f && leb v2 f
+abbrev pub isDark : Composition → ℕ → ℕ → Bool
+isDark Plain v1 v2 = eqb v2 0
+isDark (Suppressed f) v1 v2 = leb v1 f && leb v2 f
 
 unfoldable pub ratioOf : Composition → ℕ → ℕ → ℕ
-ratioOf kind r g = level 10 (10 ^ 10 * (g + epsilonOf kind)) (scaleOf kind ^ 10 * (r + epsilonOf kind))
+ratioOf kind r g = level 10 (10 ^ 10 * (g + epsilon kind)) (scaleOf kind ^ 10 * (r + epsilon kind))
 
 unfoldable pub blueOf : Composition → ℕ → ℕ → ℕ
-blueOf kind v1 v2 = cond (darkOf kind v1 v2) 0 (ratioOf kind (redOf kind v1) (greenOf kind v2))
+blueOf kind v1 v2 = cond (isDark kind v1 v2) 0 (ratioOf kind (redOf kind v1) (greenOf kind v2))
 
-unfoldable pub colourOf : Composition → ℕ → ℕ → Rgb
-colourOf kind v1 v2 = record { r = redOf kind v1; g = greenOf kind v2; b = blueOf kind v1 v2 }
+unfoldable pub colourAt : Composition → ℕ → ℕ → Rgb
+colourAt kind v1 v2 = record { r = redOf kind v1; g = greenOf kind v2; b = blueOf kind v1 v2 }
 
 -- the tables of a composition: red, green, and the thresholds of blue
 pub record Palette (kind : Composition) (red green thresholds : List ℕ) : Type 0 where
   pub reds : Table (redOf kind) red
   pub greens : Table (greenOf kind) green
-  pub ratios : Thresholds (scaleOf kind) (epsilonOf kind) thresholds
+  pub ratios : Thresholds (scaleOf kind) (epsilon kind) thresholds
 
 -- r / g reaches the threshold at place k
 pub record Reached (t : List ℕ) (r g k : ℕ) : Type 0 where

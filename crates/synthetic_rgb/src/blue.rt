@@ -5,7 +5,7 @@ ghost use Prim.Native.Nat.{_+_, _≤_, _<_};
 ghost use lib.Dec.{eqb};
 ghost use lib.ListN.{length};
 ghost use Rattle.colour_tables.specs.Tables.{Rank};
-ghost use Rattle.synthetic_rgb.specs.Palette.{Palette, Reached, Cells, epsilonOf, darkOf};
+ghost use Rattle.synthetic_rgb.specs.Palette.{Palette, Reached, Cells, epsilon, isDark};
 use crate::Composition;
 use crate::casts;
 
@@ -28,7 +28,7 @@ pub fn rank_from(thresholds: &[u16], r: u64, g: u64, from: usize) -> usize
 
 // What stabilizes the ratio.
 pub fn epsilon(kind: Composition) -> u64
-    ensures { λ r. ⌜ (r ≡ epsilonOf kind) × (r ≤ 8) ⌝ }
+    ensures { λ r. ⌜ (r ≡ epsilon kind) × (r ≤ 8) ⌝ }
 {
     match kind {
         Composition::Plain => 0,
@@ -38,7 +38,7 @@ pub fn epsilon(kind: Composition) -> u64
 
 // Whether a pixel has no blue whatever its ratio.
 pub fn is_dark(kind: Composition, v1: u8, v2: u8) -> bool
-    ensures { λ r. ⌜ r ≡ darkOf kind v1 v2 ⌝ }
+    ensures { λ r. ⌜ r ≡ isDark kind v1 v2 ⌝ }
 {
     match kind {
         Composition::Plain => v2 == 0,
@@ -48,8 +48,8 @@ pub fn is_dark(kind: Composition, v1: u8, v2: u8) -> bool
 
 // The place of the ratio of a red and a green, from a place on that it reaches.
 pub fn place_from(kind: Composition, thresholds: &[u16], red: u8, green: u8, from: usize) -> usize
-    requires { ⌜ Reached (now thresholds) (red + epsilonOf kind) (green + epsilonOf kind) from ⌝ }
-    ensures { λ k. ⌜ Rank (now (thresholds .entry)) (red + epsilonOf kind) (green + epsilonOf kind) k ⌝ }
+    requires { ⌜ Reached (now thresholds) (red + epsilon kind) (green + epsilon kind) from ⌝ }
+    ensures { λ k. ⌜ Rank (now (thresholds .entry)) (red + epsilon kind) (green + epsilon kind) k ⌝ }
 {
     let eps = epsilon(kind);
     rank_from(thresholds, red as u64 + eps, green as u64 + eps, from)
@@ -58,7 +58,7 @@ pub fn place_from(kind: Composition, thresholds: &[u16], red: u8, green: u8, fro
 // The blue of a pixel whose ratio stands at a place.
 pub fn blue_at(kind: Composition, v1: u8, v2: u8, place: usize) -> u8
     requires { ⌜ place < 256 ⌝ }
-    ensures { λ b. ⌜ b ≡ cond (darkOf kind v1 v2) 0 place ⌝ }
+    ensures { λ b. ⌜ b ≡ cond (isDark kind v1 v2) 0 place ⌝ }
 {
     if is_dark(kind, v1, v2) { 0 } else { place as u8 }
 }

@@ -4,7 +4,7 @@ ghost use mathlib.Core.List.{_++_};
 ghost use Prim.Native.Nat.{ℕ, _+_, _≤_, min};
 ghost use lib.ListN.{length, getD};
 ghost use Rattle.spec.specs.Lists.{stored};
-ghost use Rattle.spec.specs.Colour.{firstLevel, floorOf};
+ghost use Rattle.spec.specs.Colour.{firstLevel, floorLevel};
 use crate::casts;
 
 // Adds each byte of a band to the count of its level.
@@ -64,7 +64,7 @@ fn count_both(band1_data: &[u8], band2_data: &[u8], histogram: &mut [u32])
 // The floor of two bands.
 pub fn floor_level(band1_data: &[u8], band2_data: &[u8]) -> u8
     requires { ⌜ (length (now band1_data) ≤ 16777216) × (length (now band2_data) ≤ 16777216) ⌝ }
-    ensures { λ f. ⌜ f ≡ floorOf (now (band1_data .entry)) (now (band2_data .entry)) ⌝ }
+    ensures { λ f. ⌜ f ≡ floorLevel (now (band1_data .entry)) (now (band2_data .entry)) ⌝ }
 {
     let mut histogram = [0u32; 256];
     count_both(band1_data, band2_data, &mut histogram);

@@ -4,7 +4,7 @@ ghost use mathlib.Core.List.{zipWith};
 ghost use Prim.Native.Nat.{_*_, _≤_};
 ghost use lib.ListN.{length};
 ghost use Rattle.spec.specs.Answer.{number, replyNumber, after};
-ghost use Rattle.spec.specs.Colour.{plain, suppressed, floorOf, bytesOf, coloursOf, composition};
+ghost use Rattle.spec.specs.Colour.{plain, suppressed, floorLevel, bytesOf, coloursOf, createSyntheticRgbByModeAndStrategy};
 use types::{AutoscaleStrategy, Reply, SyntheticRgbMode};
 
 mod blue;
@@ -45,7 +45,7 @@ pub fn create_synthetic_rgb_by_mode(mode: SyntheticRgbMode, band1_data: &[u8], b
 // The suppressed colours above the floor of the two bands.
 pub fn create_synthetic_rgb_suppressed(band1_data: &[u8], band2_data: &[u8], rgb_data: &mut [u8])
     requires { ⌜ (length (now band2_data) ≡ length (now band1_data)) × (length (now rgb_data) ≡ 3 * length (now band1_data)) × (length (now band1_data) ≤ 16777216) ⌝ }
-    ensures { λ _. ⌜ now (rgb_data .exit) ≡ bytesOf (zipWith (suppressed (floorOf (now (band1_data .entry)) (now (band2_data .entry)))) (now (band1_data .entry)) (now (band2_data .entry))) ⌝ }
+    ensures { λ _. ⌜ now (rgb_data .exit) ≡ bytesOf (zipWith (suppressed (floorLevel (now (band1_data .entry)) (now (band2_data .entry)))) (now (band1_data .entry)) (now (band2_data .entry))) ⌝ }
 {
     let f = floor::floor_level(band1_data, band2_data);
     let red = colour_tables::red_above_table(f as usize);
@@ -71,8 +71,8 @@ pub fn compose_by_mode_and_strategy(mode: SyntheticRgbMode, strategy: AutoscaleS
 
 // Composition as a call: the lengths are tested first.
 pub fn create_synthetic_rgb_by_mode_and_strategy(mode: SyntheticRgbMode, strategy: AutoscaleStrategy, band1_data: &[u8], band2_data: &[u8], rgb_data: &mut [u8]) -> Reply
-    ensures { λ r. ⌜ replyNumber r ≡ number (composition mode strategy (now (band1_data .entry)) (now (band2_data .entry)) (length (now (rgb_data .entry)))) ⌝ }
-    ensures { λ _. ⌜ now (rgb_data .exit) ≡ after (λ l. l) (composition mode strategy (now (band1_data .entry)) (now (band2_data .entry)) (length (now (rgb_data .entry)))) (now (rgb_data .entry)) ⌝ }
+    ensures { λ r. ⌜ replyNumber r ≡ number (createSyntheticRgbByModeAndStrategy mode strategy (now (band1_data .entry)) (now (band2_data .entry)) (length (now (rgb_data .entry)))) ⌝ }
+    ensures { λ _. ⌜ now (rgb_data .exit) ≡ after (λ l. l) (createSyntheticRgbByModeAndStrategy mode strategy (now (band1_data .entry)) (now (band2_data .entry)) (length (now (rgb_data .entry)))) (now (rgb_data .entry)) ⌝ }
 {
     if band2_data.len() != band1_data.len() {
         return Reply::Refused(2);

@@ -4,7 +4,7 @@ ghost use mathlib.Core.List.{zipWith};
 ghost use Prim.Native.Nat.{_+_, _*_, _≤_, _<_};
 ghost use lib.ListN.{length};
 ghost use Rattle.spec.specs.Colour.{bytesOf};
-ghost use Rattle.synthetic_rgb.specs.Palette.{Palette, colourOf, shown, written};
+ghost use Rattle.synthetic_rgb.specs.Palette.{Palette, colourAt, shown, written};
 use crate::Composition;
 use crate::blue;
 use crate::casts;
@@ -31,7 +31,7 @@ fn put(rgb_data: &mut [u8], j: usize, colour: Rgb)
 // The colour of a pixel.
 fn colour_at(kind: Composition, red: &[u8; 256], green: &[u8; 256], thresholds: &[u16], v1: u8, v2: u8) -> Rgb
     requires { ⌜ Palette kind (now red) (now green) (now thresholds) ⌝ }
-    ensures { λ c. ⌜ c ≡ colourOf kind v1 v2 ⌝ }
+    ensures { λ c. ⌜ c ≡ colourAt kind v1 v2 ⌝ }
 {
     let i1 = casts::index(v1);
     let i2 = casts::index(v2);
@@ -45,7 +45,7 @@ fn colour_at(kind: Composition, red: &[u8; 256], green: &[u8; 256], thresholds: 
 // The colours, with blue worked out for each pixel.
 pub fn by_pixel(kind: Composition, red: &[u8; 256], green: &[u8; 256], thresholds: &[u16], band1_data: &[u8], band2_data: &[u8], rgb_data: &mut [u8])
     requires { ⌜ Palette kind (now red) (now green) (now thresholds) × (length (now band2_data) ≡ length (now band1_data)) × (length (now rgb_data) ≡ 3 * length (now band1_data)) ⌝ }
-    ensures { λ _. ⌜ now (rgb_data .exit) ≡ bytesOf (zipWith (colourOf kind) (now (band1_data .entry)) (now (band2_data .entry))) ⌝ }
+    ensures { λ _. ⌜ now (rgb_data .exit) ≡ bytesOf (zipWith (colourAt kind) (now (band1_data .entry)) (now (band2_data .entry))) ⌝ }
 {
     let mut i: usize = 0;
     let mut j: usize = 0;
@@ -78,7 +78,7 @@ pub fn by_cells(red: &[u8; 256], green: &[u8; 256], cells: &[u8], band1_data: &[
 // The colours, with the blue of every pair of bytes worked out first.
 fn with_cells(kind: Composition, red: &[u8; 256], green: &[u8; 256], thresholds: &[u16], cells: &mut [u8; 65536], band1_data: &[u8], band2_data: &[u8], rgb_data: &mut [u8])
     requires { ⌜ Palette kind (now red) (now green) (now thresholds) × (length (now band2_data) ≡ length (now band1_data)) × (length (now rgb_data) ≡ 3 * length (now band1_data)) ⌝ }
-    ensures { λ _. ⌜ now (rgb_data .exit) ≡ bytesOf (zipWith (colourOf kind) (now (band1_data .entry)) (now (band2_data .entry))) ⌝ }
+    ensures { λ _. ⌜ now (rgb_data .exit) ≡ bytesOf (zipWith (colourAt kind) (now (band1_data .entry)) (now (band2_data .entry))) ⌝ }
 {
     blue::blue_cells(kind, red, green, thresholds, cells);
     by_cells(red, green, cells, band1_data, band2_data, rgb_data);
@@ -87,7 +87,7 @@ fn with_cells(kind: Composition, red: &[u8; 256], green: &[u8; 256], thresholds:
 // The colours of two bands: a short list does not pay for 65,536 cells.
 pub fn colours(kind: Composition, red: &[u8; 256], green: &[u8; 256], thresholds: &[u16], band1_data: &[u8], band2_data: &[u8], rgb_data: &mut [u8])
     requires { ⌜ Palette kind (now red) (now green) (now thresholds) × (length (now band2_data) ≡ length (now band1_data)) × (length (now rgb_data) ≡ 3 * length (now band1_data)) ⌝ }
-    ensures { λ _. ⌜ now (rgb_data .exit) ≡ bytesOf (zipWith (colourOf kind) (now (band1_data .entry)) (now (band2_data .entry))) ⌝ }
+    ensures { λ _. ⌜ now (rgb_data .exit) ≡ bytesOf (zipWith (colourAt kind) (now (band1_data .entry)) (now (band2_data .entry))) ⌝ }
 {
     if band1_data.len() < 2048 {
         by_pixel(kind, red, green, thresholds, band1_data, band2_data, rgb_data);

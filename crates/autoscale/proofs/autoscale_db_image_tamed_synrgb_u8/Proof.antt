@@ -13,15 +13,6 @@ use borrow.Author.Needs.{needs}
 use Rattle.autoscale.proofs.autoscale_db_image_tamed_synrgb_u8.Statement.{statement}
 use Rattle.autoscale.proofs.autoscale_db_image_tamed_synrgb_u8.Tie as tie
 
-enum-known-window : tie.Need-enum-known-window
-enum-known-window c = search needs
-
-leave-u8-requires : tie.Need-leave-u8-requires
-leave-u8-requires c κs = search needs
-
-same-length : tie.Need-same-length
-same-length c = search needs
-
 returns : tie.Need-returns
 unfolding replyNumber
 returns c =
@@ -31,9 +22,6 @@ returns c =
     let l = c .before .before .leave-u8 in
     replies-same (painting (a .window) (plainValues full8 px (a .window))) (now (a .out)) (leaving (a .window) (now (a .out))) (replyNumber (l .result)) (l .last .1 .0) (left-plain full8 (a .window) px (now (a .out)) (c .before .before .before .before .match .keys2) (omega arith)) (l .ensures .0) (l .ensures .1)
 
-is-painted-requires : tie.Need-is-painted-requires
-is-painted-requires c κs = search needs
-
 returns-2 : tie.Need-returns-2
 unfolding replyNumber
 returns-2 c =
@@ -41,12 +29,6 @@ returns-2 c =
     let a = c .before .before .before .before .before .before .before .before .args in
     let px = pixels (now (a .valid-mask)) (now (a .db)) in
     replies-refused (painting (a .window) (plainValues full8 px (a .window))) (now (a .out)) 6 (gamma-not-painted (a .window) (g .0 .0) (g .0 .1 .0) (g .0 .1 .1 .0) (g .0 .1 .1 .1 .0) (g .1) (sym (c .before .is-painted .ensures) ∙ not-true _ (c .if1 .taken)) (plainValues full8 px (a .window)))
-
-paint-u8-requires : tie.Need-paint-u8-requires
-paint-u8-requires c κs = search needs
-
-same-length-2 : tie.Need-same-length-2
-same-length-2 c = search needs
 
 returns-3 : tie.Need-returns-3
 unfolding replyNumber
@@ -61,4 +43,4 @@ returns-3 c =
     replies-done (painting (a .window) (plainValues full8 px (a .window))) (now (a .out)) (p .paint-u8 .last .1 .1 .1 .1 .1 .0) (plainValues full8 px (a .window)) painted (p .paint-u8 .ensures .0 ∙ sym plain)
 
 pub autoscale-db-image-tamed-synrgb-u8-spec : {M : Type 1} → statement M
-autoscale-db-image-tamed-synrgb-u8-spec = tie.close (tie.spec enum-known-window leave-u8-requires same-length returns is-painted-requires returns-2 paint-u8-requires same-length-2 returns-3)
+autoscale-db-image-tamed-synrgb-u8-spec = tie.close (tie.spec (λ c. search needs) (λ c κs. search needs) (λ c. search needs) returns (λ c κs. search needs) returns-2 (λ c κs. search needs) (λ c. search needs) returns-3)

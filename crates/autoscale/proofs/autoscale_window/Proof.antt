@@ -8,9 +8,6 @@ use borrow.Author.Needs.{needs}
 use Rattle.autoscale.proofs.autoscale_window.Statement.{statement}
 use Rattle.autoscale.proofs.autoscale_window.Tie as tie
 
-shape-refusal-requires : tie.Need-shape-refusal-requires
-shape-refusal-requires c κs = search needs
-
 returns : tie.Need-returns
 returns c = call-shape _ _ _ _ _ _ (c .before .shape-refusal .ensures) (c .if1 .taken)
 
@@ -23,4 +20,4 @@ returns-2 : tie.Need-returns-2
 returns-2 c = call-band _ _ _ _ _ (sym (c .before .before .shape-refusal .ensures) ∙ c .before .if1 .left) _ (c .band-window .ensures)
 
 pub autoscale-window-spec : {M : Type 1} → statement M
-autoscale-window-spec = tie.close (tie.spec shape-refusal-requires returns band-window-requires returns-2)
+autoscale-window-spec = tie.close (tie.spec (λ c κs. search needs) returns band-window-requires returns-2)

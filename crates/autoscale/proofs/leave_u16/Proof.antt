@@ -10,21 +10,12 @@ use borrow.Author.Needs.{needs}
 use Rattle.autoscale.proofs.leave_u16.Statement.{statement}
 use Rattle.autoscale.proofs.leave_u16.Tie as tie
 
-enum-known-window : tie.Need-enum-known-window
-enum-known-window c = search needs
-
 returns : tie.Need-returns
 unfolding replyNumber leaving
 returns c =
     let w = c .before in
     let a = w .before .before .before .args in
     replies-refused (leaving (a .window) (now (a .out))) (now (a .out)) (w .window .given .0 .0) (ap (λ (v : WindowAnswer). leaving v (now (a .out))) (w .window .given .1))
-
-clear-u16-requires : tie.Need-clear-u16-requires
-clear-u16-requires c κs = search needs
-
-same-length : tie.Need-same-length
-same-length c = search needs
 
 returns-2 : tie.Need-returns-2
 unfolding replyNumber
@@ -34,4 +25,4 @@ returns-2 c =
     replies-done (leaving (a .window) (now (a .out))) (now (a .out)) (c .before .before .clear-u16 .last .0) (map (λ x. 0) (now (a .out))) (not-refused (a .window) (now (a .out)) (m .match .keys2)) (c .before .before .clear-u16 .ensures)
 
 pub leave-u16-spec : {M : Type 1} → statement M
-leave-u16-spec = tie.close (tie.spec enum-known-window returns clear-u16-requires same-length returns-2)
+leave-u16-spec = tie.close (tie.spec (λ c. search needs) returns (λ c κs. search needs) (λ c. search needs) returns-2)

@@ -9,12 +9,9 @@ returns : tie.Need-returns
 unfolding opened
 returns c = rw (eq-eqb _ _ (c .if1 .taken))
 
-max-f64-requires : tie.Need-max-f64-requires
-max-f64-requires c κs = search needs
-
 returns-2 : tie.Need-returns-2
 unfolding opened
 returns-2 c = rw (ne-eqb _ _ (c .before .if1 .left), ← c .max-f64 .ensures)
 
 pub open-window-spec : {M : Type 1} → statement M
-open-window-spec = tie.close (tie.spec returns max-f64-requires returns-2)
+open-window-spec = tie.close (tie.spec returns (λ c κs. search needs) returns-2)

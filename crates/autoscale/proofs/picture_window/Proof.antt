@@ -4,15 +4,9 @@ use borrow.Author.Needs.{needs}
 use Rattle.autoscale.proofs.picture_window.Statement.{statement}
 use Rattle.autoscale.proofs.picture_window.Tie as tie
 
-picture-clip-requires : tie.Need-picture-clip-requires
-picture-clip-requires c κs = search needs
-
-open-window-requires : tie.Need-open-window-requires
-open-window-requires c κs = search needs
-
 returns : tie.Need-returns
 unfolding pictureWindow
 returns c = cc
 
 pub picture-window-spec : {M : Type 1} → statement M
-picture-window-spec = tie.close (tie.spec picture-clip-requires open-window-requires returns)
+picture-window-spec = tie.close (tie.spec (λ c κs. search needs) (λ c κs. search needs) returns)

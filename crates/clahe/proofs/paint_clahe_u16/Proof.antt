@@ -7,18 +7,6 @@ use Rattle.clahe.proofs.Painted.{shades-are}
 use Rattle.clahe.proofs.paint_clahe_u16.Statement.{statement}
 use Rattle.clahe.proofs.paint_clahe_u16.Tie as tie
 
-write-tables-requires : tie.Need-write-tables-requires
-write-tables-requires c κs = search needs
-
-paint-work-u16-requires : tie.Need-paint-work-u16-requires
-paint-work-u16-requires c κs = search needs
-
-same-length : tie.Need-same-length
-same-length c = search needs
-
-same-length-2 : tie.Need-same-length-2
-same-length-2 c = search needs
-
 returns : tie.Need-returns
 returns c =
     let p = c .before .before in
@@ -30,4 +18,4 @@ returns c =
 pub paint-clahe-u16-spec : {M : Type 1} → statement M
 paint-clahe-u16-spec =
     tie.close
-    (tie.spec write-tables-requires paint-work-u16-requires same-length same-length-2 returns)
+    (tie.spec (λ c κs. search needs) (λ c κs. search needs) (λ c. search needs) (λ c. search needs) returns)

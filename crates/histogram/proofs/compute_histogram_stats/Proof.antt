@@ -9,9 +9,6 @@ use borrow.Author.Needs.{needs}
 use Rattle.histogram.proofs.compute_histogram_stats.Statement.{statement}
 use Rattle.histogram.proofs.compute_histogram_stats.Tie as tie
 
-shape-refusal-requires : tie.Need-shape-refusal-requires
-shape-refusal-requires c κs = search needs
-
 returns : tie.Need-returns
 unfolding readStatistics
 returns c = call-shape _ _ _ _ _ (c .before .shape-refusal .ensures) (c .if1 .taken)
@@ -21,12 +18,6 @@ first-pass-requires c κs =
     let s = shape-accepted _ _ _ _ (sym (c .before .shape-refusal .ensures) ∙ c .if1 .left) in
     (s .length-marks ∙ sym (s .length-db), omega (arith, s .length-db, mul-le-mul (s .rows-most) (s .cols-most)))
 
-enum-known-m : tie.Need-enum-known-m
-enum-known-m c = search needs
-
-enum-told : tie.Need-enum-told
-enum-told c = search needs
-
 returns-2 : tie.Need-returns-2
 unfolding readStatistics
 returns-2 c =
@@ -34,8 +25,8 @@ returns-2 c =
     let b = f .before in
     call-bad _ _ _ _ (sym (b .before .shape-refusal .ensures) ∙ b .if1 .left) (sym (f .first-pass .ensures) ∙ c .enum-told .given .1)
 
-summary-of-requires : tie.Need-summary-of-requires
-summary-of-requires c κs =
+summary-requires : tie.Need-summary-requires
+summary-requires c κs =
     let b = c .before .before .before .before in
     let s = shape-accepted _ _ _ _ (sym (b .before .shape-refusal .ensures) ∙ b .if1 .left) in
     (s .length-marks ∙ sym (s .length-db), omega (arith, s .length-db, mul-le-mul (s .rows-most) (s .cols-most)))
@@ -45,17 +36,17 @@ unfolding readStatistics
 returns-3 c =
     let f = c .before .before .before .before in
     let b = f .before in
-    call-done _ _ _ _ (sym (b .before .shape-refusal .ensures) ∙ b .if1 .left) _ (sym (f .first-pass .ensures) ∙ c .before .before .m .given .1) _ (c .summary-of .ensures)
+    call-done _ _ _ _ (sym (b .before .shape-refusal .ensures) ∙ b .if1 .left) _ (sym (f .first-pass .ensures) ∙ c .before .before .m .given .1) _ (c .summary .ensures)
 
 pub compute-histogram-stats-spec : {M : Type 1} → statement M
 compute-histogram-stats-spec =
     tie.close
     (tie.spec
-    shape-refusal-requires
+    (λ c κs. search needs)
     returns
     first-pass-requires
-    enum-known-m
-    enum-told
+    (λ c. search needs)
+    (λ c. search needs)
     returns-2
-    summary-of-requires
+    summary-requires
     returns-3)

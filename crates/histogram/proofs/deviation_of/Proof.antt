@@ -5,12 +5,6 @@ use borrow.Author.Needs.{needs}
 use Rattle.histogram.proofs.deviation_of.Statement.{statement}
 use Rattle.histogram.proofs.deviation_of.Tie as tie
 
-int-to-float-sqrt-f64 : tie.Need-int-to-float-sqrt-f64
-int-to-float-sqrt-f64 c = search needs
-
-sqrt-f64-requires : tie.Need-sqrt-f64-requires
-sqrt-f64-requires c κs = search needs
-
 returns : tie.Need-returns
 unfolding deviationOf
 returns c = rw (lt-ltb 1 (c .before .before .before .before .before .args .m .count) (c .before .before .before .if1 .taken)) (c .sqrt-f64 .ensures)
@@ -20,4 +14,4 @@ unfolding deviationOf
 returns-2 c = rw (le-ltb 1 (c .before .before .args .m .count) (c .if1 .left))
 
 pub deviation-of-spec : {M : Type 1} → statement M
-deviation-of-spec = tie.close (tie.spec int-to-float-sqrt-f64 sqrt-f64-requires returns returns-2)
+deviation-of-spec = tie.close (tie.spec (λ c. search needs) (λ c κs. search needs) returns returns-2)

@@ -1,15 +1,9 @@
 -- `histogram::spread_stats` meets its contract. Assumes nothing.
 use Rattle.histogram.specs.Summary.{spanOf, spreadStats}
-use Rattle.histogram.proofs.Summary.{gathered-parts}
+use Rattle.histogram.proofs.Summaries.{gathered-parts}
 use borrow.Author.Needs.{needs}
 use Rattle.histogram.proofs.spread_stats.Statement.{statement}
 use Rattle.histogram.proofs.spread_stats.Tie as tie
-
-cast-valid-count : tie.Need-cast-valid-count
-cast-valid-count c = search needs
-
-deviation-of-requires : tie.Need-deviation-of-requires
-deviation-of-requires c κs = search needs
 
 estimate-percentile-requires : tie.Need-estimate-percentile-requires
 estimate-percentile-requires c κs = c .before .before .before .pre
@@ -54,8 +48,8 @@ pub spread-stats-spec : {M : Type 1} → statement M
 spread-stats-spec =
     tie.close
     (tie.spec
-    cast-valid-count
-    deviation-of-requires
+    (λ c. search needs)
+    (λ c κs. search needs)
     estimate-percentile-requires
     estimate-percentile-requires-2
     estimate-percentile-requires-3

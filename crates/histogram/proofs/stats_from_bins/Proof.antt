@@ -1,15 +1,9 @@
 -- `histogram::stats_from_bins` meets its contract. Assumes nothing.
 use mathlib.Core.Path.{sym, _∙_}
-use Rattle.histogram.proofs.Summary.{from-flat, from-spread}
+use Rattle.histogram.proofs.Summaries.{from-flat, from-spread}
 use borrow.Author.Needs.{needs}
 use Rattle.histogram.proofs.stats_from_bins.Statement.{statement}
 use Rattle.histogram.proofs.stats_from_bins.Tie as tie
-
-is-flat-requires : tie.Need-is-flat-requires
-is-flat-requires c κs = search needs
-
-flat-stats-requires : tie.Need-flat-stats-requires
-flat-stats-requires c κs = search needs
 
 returns : tie.Need-returns
 returns c = c .flat-stats .ensures ∙ from-flat _ _ (sym (c .before .before .is-flat .ensures) ∙ c .before .if1 .taken)
@@ -23,4 +17,4 @@ returns-2 c = c .spread-stats .ensures ∙ from-spread _ _ (sym (c .before .befo
 pub stats-from-bins-spec : {M : Type 1} → statement M
 stats-from-bins-spec =
     tie.close
-    (tie.spec is-flat-requires flat-stats-requires returns spread-stats-requires returns-2)
+    (tie.spec (λ c κs. search needs) (λ c κs. search needs) returns spread-stats-requires returns-2)

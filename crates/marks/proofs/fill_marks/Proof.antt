@@ -20,24 +20,6 @@ abbrev μ-loop : tie.MeasureT-loop
 loop-holds : tie.Need-loop-holds Inv-loop μ-loop
 loop-holds c = (omega arith, c .before .before .pre, refl)
 
-mul-mark-of : tie.Need-mul-mark-of Inv-loop μ-loop
-mul-mark-of c = omega arith
-
-shared-slice-read-mark-of : tie.Need-shared-slice-read-mark-of Inv-loop μ-loop
-shared-slice-read-mark-of c = omega arith
-
-mark-of-requires : tie.Need-mark-of-requires Inv-loop μ-loop
-mark-of-requires c κs = search needs
-
-slice-write-valid-mask : tie.Need-slice-write-valid-mask Inv-loop μ-loop
-slice-write-valid-mask c = omega arith
-
-add-i : tie.Need-add-i Inv-loop μ-loop
-add-i c = omega arith
-
-loop-less : tie.Need-loop-less Inv-loop μ-loop
-loop-less c = omega arith
-
 loop-again : tie.Need-loop-again Inv-loop μ-loop
 loop-again c =
     let l = c .before .before .before in
@@ -48,9 +30,6 @@ loop-again c =
           (l .loop .inv .2),
     )
 
-same-length : tie.Need-same-length Inv-loop μ-loop
-same-length c = omega arith
-
 returns : tie.Need-returns Inv-loop μ-loop
 returns c =
     finish markOf nan (now (c .before .before .before .before .args .processed)) (c .before .loop .valid-mask) (c .before .loop .i) (c .before .loop .inv)
@@ -58,4 +37,4 @@ returns c =
 
 pub fill-marks-spec : {M : Type 1} → statement M
 fill-marks-spec =
-    tie.close (tie.spec Inv-loop μ-loop loop-holds mul-mark-of shared-slice-read-mark-of mark-of-requires slice-write-valid-mask add-i loop-less loop-again same-length returns)
+    tie.close (tie.spec Inv-loop μ-loop loop-holds (λ c. omega arith) (λ c. omega arith) (λ c κs. search needs) (λ c. omega arith) (λ c. omega arith) (λ c. omega arith) loop-again (λ c. omega arith) returns)

@@ -15,8 +15,5 @@ returns c = nan-bits binary64 (c .before .before .args .n) (c .before .if1 .take
 float-from-bits-result : tie.Need-float-from-bits-result
 float-from-bits-result c = ⊎-elim (λ w. no-nan-digits binary64 (c .before .args .n) (w .1 .left)) (λ w. no-nan-ones binary64 (c .before .args .n) (w .left)) (c .if1 .came)
 
-returns-2 : tie.Need-returns-2
-returns-2 c = search needs
-
 pub f64-from-bits-spec : {M : Type 1} → statement M
-f64-from-bits-spec = tie.close (tie.spec returns float-from-bits-result returns-2)
+f64-from-bits-spec = tie.close (tie.spec returns float-from-bits-result (λ c. search needs))

@@ -40,29 +40,17 @@ whole-root-requires c κs =
     let l = lead q (c .pre .0) (c .pre .1 .0) in
     subst (λ (z : ℕ). z < 2 ^ 54) (sym (whole q (c .args .k) _ l)) (placed-lt q (c .args .k) _ l)
 
-add-f64-from-bits : tie.Need-add-f64-from-bits
-add-f64-from-bits c = search needs
-
 sub-f64-from-bits : tie.Need-sub-f64-from-bits
 sub-f64-from-bits c = omega (arith, lead (c .before .args .q) (c .before .pre .0) (c .before .pre .1 .0) .up-le)
 
 sub-f64-from-bits-2 : tie.Need-sub-f64-from-bits-2
 sub-f64-from-bits-2 c = omega (arith, lead (c .before .args .q) (c .before .pre .0) (c .before .pre .1 .0) .up-le)
 
-mul-f64-from-bits : tie.Need-mul-f64-from-bits
-mul-f64-from-bits c = search needs
-
 add-f64-from-bits-2 : tie.Need-add-f64-from-bits-2
 add-f64-from-bits-2 c =
     let d = c .before in
     let l = lead (d .args .q) (d .pre .0) (d .pre .1 .0) in
     record { fits = omega (arith, root-lt (d .args .q) (d .args .k) _ l (c .whole-root .result) (c .whole-root .ensures ∙ ap (λ (z : ℕ). wholeRoot (z * 2 ^ 54) 54 0) (whole (d .args .q) (d .args .k) _ l))) }
-
-add-f64-from-bits-3 : tie.Need-add-f64-from-bits-3
-add-f64-from-bits-3 c = search needs
-
-f64-from-bits-requires : tie.Need-f64-from-bits-requires
-f64-from-bits-requires c κs = search needs
 
 returns : tie.Need-returns
 returns c =
@@ -75,5 +63,5 @@ returns c =
 pub root-of-spec : {M : Type 1} → statement M
 root-of-spec =
     tie.close
-    (tie.spec cast-up sub-up add-odd add-whole-root shl-whole-root whole-root-requires add-f64-from-bits sub-f64-from-bits sub-f64-from-bits-2 mul-f64-from-bits add-f64-from-bits-2 add-f64-from-bits-3 f64-from-bits-requires
+    (tie.spec cast-up sub-up add-odd add-whole-root shl-whole-root whole-root-requires (λ c. search needs) sub-f64-from-bits sub-f64-from-bits-2 (λ c. search needs) add-f64-from-bits-2 (λ c. search needs) (λ c κs. search needs)
     returns)

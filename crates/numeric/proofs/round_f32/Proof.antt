@@ -7,21 +7,18 @@ use lib.Dec.{le→leb}
 use lib.IntN.{pos}
 use lib.Ieee.{binary32, neg, ofInt, inFloat, ofBits}
 use Rattle.numeric.proofs.Facts.{holds, fails}
-use Rattle.numeric.proofs.Away.{small-rounded, away-small, away-neg, neg-above, away-large, away-large-neg, away-zero}
+use Rattle.numeric.proofs.Away.{small-roundAsU64, away-small, away-neg, neg-above, away-large, away-large-neg, away-zero}
 use Rattle.numeric.proofs.round_f32.Statement.{statement}
 use Rattle.numeric.proofs.round_f32.Tie as tie
 use Rattle.numeric.proofs.round_f32.Reads as reads
 use Rattle.numeric.proofs.round_f32.Lts as lts
 use Rattle.numeric.proofs.round_f32_as_u64.Reads as round-f32-as-u64-reads
 
-round-f32-as-u64-requires : tie.Need-round-f32-as-u64-requires
-round-f32-as-u64-requires c κs = search needs
-
 int-to-float-result : tie.Need-int-to-float-result
 unfolding inFloat ofBits
 int-to-float-result c =
     let d = c .before .before in
-    le→leb (c .before .round-f32-as-u64 .result) (2 ^ 24) (omega (arith, c .before .round-f32-as-u64 .ensures, small-rounded binary32 (d .before .before .args .x) (holds (d .if2 .taken))))
+    le→leb (c .before .round-f32-as-u64 .result) (2 ^ 24) (omega (arith, c .before .round-f32-as-u64 .ensures, small-roundAsU64 binary32 (d .before .before .args .x) (holds (d .if2 .taken))))
 
 returns : tie.Need-returns
 unfolding ofBits
@@ -33,14 +30,11 @@ returns-2 : tie.Need-returns-2
 unfolding ofBits
 returns-2 c = away-large binary32 (c .before .before .args .x) (holds (c .before .before .good .0 .1)) (holds (c .before .if1 .taken)) (fails (c .if2 .left))
 
-round-f32-as-u64-requires-2 : tie.Need-round-f32-as-u64-requires-2
-round-f32-as-u64-requires-2 c κs = search needs
-
 int-to-float-result-2 : tie.Need-int-to-float-result-2
 unfolding inFloat ofBits
 int-to-float-result-2 c =
     let d = c .before .before in
-    le→leb (c .before .round-f32-as-u642 .result) (2 ^ 24) (omega (arith, c .before .round-f32-as-u642 .ensures, small-rounded binary32 (neg (d .before .before .before .args .x)) (holds (d .if4 .taken))))
+    le→leb (c .before .round-f32-as-u642 .result) (2 ^ 24) (omega (arith, c .before .round-f32-as-u642 .ensures, small-roundAsU64 binary32 (neg (d .before .before .before .args .x)) (holds (d .if4 .taken))))
 
 returns-3 : tie.Need-returns-3
 unfolding ofBits
@@ -59,4 +53,4 @@ returns-5 c = let d = c .before .before in away-zero binary32 (d .args .x) (hold
 
 pub round-f32-spec : {M : Type 1} → statement M
 round-f32-spec =
-    tie.close (tie.spec round-f32-as-u64-requires int-to-float-result returns returns-2 round-f32-as-u64-requires-2 int-to-float-result-2 returns-3 returns-4 returns-5)
+    tie.close (tie.spec (λ c κs. search needs) int-to-float-result returns returns-2 (λ c κs. search needs) int-to-float-result-2 returns-3 returns-4 returns-5)

@@ -12,15 +12,9 @@ use Rattle.numeric.proofs.round_f64_as_u64.Reads as reads
 use Rattle.numeric.proofs.round_f64_as_u64.Lts as lts
 use Rattle.numeric.proofs.f64_as_u64.Reads as f64-as-u64-reads
 
-f64-as-u64-requires : tie.Need-f64-as-u64-requires
-f64-as-u64-requires c κs = search needs
-
 int-to-float-if2 : tie.Need-int-to-float-if2
 unfolding inFloat
 int-to-float-if2 c = le→leb (c .before .before .f64-as-u64 .result) (2 ^ 53) (omega (arith, c .before .if1 .taken))
-
-add-result : tie.Need-add-result
-add-result c = search needs
 
 returns : tie.Need-returns
 unfolding ofBits
@@ -40,4 +34,4 @@ returns-3 c =
     large binary64 (d .before .args .x) (d .f64-as-u64 .result) (holds (d .before .good .0 .1)) (d .f64-as-u64 .ensures) (omega (arith, c .if1 .left))
 
 pub round-f64-as-u64-spec : {M : Type 1} → statement M
-round-f64-as-u64-spec = tie.close (tie.spec f64-as-u64-requires int-to-float-if2 add-result returns returns-2 returns-3)
+round-f64-as-u64-spec = tie.close (tie.spec (λ c κs. search needs) int-to-float-if2 (λ c. search needs) returns returns-2 returns-3)

@@ -25,15 +25,6 @@ returns c =
     let d = c .before .before .before in
     c .root-of .ensures ∙ subnormal (d .args .x) _ (c .before .before .if1 .taken) (fields (d .args .x) (holds (d .good .0 .1)) (c .before .before .if1 .taken)) (c .before .if2 .taken) .1
 
-add-root-of : tie.Need-add-root-of
-add-root-of c = search needs
-
-sub-root-of : tie.Need-sub-root-of
-sub-root-of c = search needs
-
-root-of-requires-2 : tie.Need-root-of-requires-2
-root-of-requires-2 c κs = search needs
-
 returns-2 : tie.Need-returns-2
 returns-2 c =
     let b = c .before .before .before in
@@ -54,4 +45,4 @@ unfolding div ofBits
 returns-5 c = other-root (c .before .before .args .x) (c .before .if1 .left) (c .if4 .left)
 
 pub sqrt-f64-spec : {M : Type 1} → statement M
-sqrt-f64-spec = tie.close (tie.spec float-to-bits-bits root-of-requires returns add-root-of sub-root-of root-of-requires-2 returns-2 returns-3 returns-4 returns-5)
+sqrt-f64-spec = tie.close (tie.spec float-to-bits-bits root-of-requires returns (λ c. search needs) (λ c. search needs) (λ c κs. search needs) returns-2 returns-3 returns-4 returns-5)

@@ -22,12 +22,6 @@ loop-holds c = start (c .args .digits) (c .pre)
 next-digit-requires : tie.Need-next-digit-requires Inv-loop μ-loop
 next-digit-requires c κs = let u = c .before .loop .inv in (root-lt u, (u .within, u .left-lt))
 
-add-i : tie.Need-add-i Inv-loop μ-loop
-add-i c = search needs
-
-loop-less : tie.Need-loop-less Inv-loop μ-loop
-loop-less c = search needs
-
 loop-again : tie.Need-loop-again Inv-loop μ-loop
 loop-again c =
     let l = c .before .before .loop in
@@ -45,4 +39,4 @@ returns c =
     whole i h k = omega arith
 
 pub whole-root-spec : {M : Type 1} → statement M
-whole-root-spec = tie.close (tie.spec Inv-loop μ-loop loop-holds next-digit-requires add-i loop-less loop-again returns)
+whole-root-spec = tie.close (tie.spec Inv-loop μ-loop loop-holds next-digit-requires (λ c. search needs) (λ c. search needs) loop-again returns)

@@ -1,35 +1,26 @@
 -- `padding::add_padding_to_square_u16` meets its contract: refused by number, or the rows in a square of zeros. Assumes nothing.
 use borrow.Author.Needs.{needs}
 use Rattle.spec.specs.Answer.{replyNumber}
-use Rattle.spec.specs.Padding.{paddingCall}
+use Rattle.spec.specs.Padding.{addPaddingToSquare}
 use Rattle.lists.proofs.Replies.{when-refused, when-done}
 use Rattle.padding.proofs.Lengths.{accepted}
 use Rattle.padding.proofs.add_padding_to_square_u16.Statement.{statement}
 use Rattle.padding.proofs.add_padding_to_square_u16.Tie as tie
 
-refusal-requires : tie.Need-refusal-requires
-refusal-requires c κs = search needs
-
 returns : tie.Need-returns
-unfolding paddingCall replyNumber
+unfolding addPaddingToSquare replyNumber
 returns c = when-refused _ _ _ _ _ (c .before .refusal .ensures) (c .if1 .taken)
-
-clear-u16-requires : tie.Need-clear-u16-requires
-clear-u16-requires c κs = search needs
 
 place-rows-u16-requires : tie.Need-place-rows-u16-requires
 place-rows-u16-requires c κs =
     let k = c .before .before .before in
     accepted _ _ _ _ _ (k .before .before .before .refusal .ensures) (k .before .before .if1 .left) _ (k .clear-u16 .ensures)
 
-same-length : tie.Need-same-length
-same-length c = search needs
-
 returns-2 : tie.Need-returns-2
-unfolding paddingCall replyNumber
+unfolding addPaddingToSquare replyNumber
 returns-2 c =
     let k = c .before .before .before .before .before .before in
     when-done _ _ _ _ _ _ (k .before .before .before .refusal .ensures) (k .before .before .if1 .left) (c .before .before .place-rows-u16 .ensures)
 
 pub add-padding-to-square-u16-spec : {M : Type 1} → statement M
-add-padding-to-square-u16-spec = tie.close (tie.spec refusal-requires returns clear-u16-requires place-rows-u16-requires same-length returns-2)
+add-padding-to-square-u16-spec = tie.close (tie.spec (λ c κs. search needs) returns (λ c κs. search needs) place-rows-u16-requires (λ c. search needs) returns-2)

@@ -16,23 +16,11 @@ abbrev μ-loop : tie.MeasureT-loop
 loop-holds : tie.Need-loop-holds Inv-loop μ-loop
 loop-holds c = (omega arith, refl, refl)
 
-slice-write-padded : tie.Need-slice-write-padded Inv-loop μ-loop
-slice-write-padded c = omega arith
-
-add-i : tie.Need-add-i Inv-loop μ-loop
-add-i c = omega arith
-
-loop-less : tie.Need-loop-less Inv-loop μ-loop
-loop-less c = omega arith
-
 loop-again : tie.Need-loop-again Inv-loop μ-loop
 loop-again c = step 0 _ _ _ (omega arith) (c .before .loop .inv)
-
-same-length : tie.Need-same-length Inv-loop μ-loop
-same-length c = omega arith
 
 returns : tie.Need-returns Inv-loop μ-loop
 returns c = finish 0 _ _ _ (c .before .loop .inv) (c .loop-test .left)
 
 pub clear-u8-spec : {M : Type 1} → statement M
-clear-u8-spec = tie.close (tie.spec Inv-loop μ-loop loop-holds slice-write-padded add-i loop-less loop-again same-length returns)
+clear-u8-spec = tie.close (tie.spec Inv-loop μ-loop loop-holds (λ c. omega arith) (λ c. omega arith) (λ c. omega arith) loop-again (λ c. omega arith) returns)

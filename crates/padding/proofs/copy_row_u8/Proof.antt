@@ -16,26 +16,8 @@ abbrev μ-loop : tie.MeasureT-loop
 loop-holds : tie.Need-loop-holds Inv-loop μ-loop
 loop-holds c = copied-none 0 (now (c .args .padded)) (c .args .at) (now (c .args .row))
 
-shared-slice-read-padded : tie.Need-shared-slice-read-padded Inv-loop μ-loop
-shared-slice-read-padded c = omega arith
-
-add-padded : tie.Need-add-padded Inv-loop μ-loop
-add-padded c = omega arith
-
-slice-write-padded : tie.Need-slice-write-padded Inv-loop μ-loop
-slice-write-padded c = omega arith
-
-add-i : tie.Need-add-i Inv-loop μ-loop
-add-i c = omega arith
-
-loop-less : tie.Need-loop-less Inv-loop μ-loop
-loop-less c = omega arith
-
 loop-again : tie.Need-loop-again Inv-loop μ-loop
 loop-again c = copied-step 0 _ _ _ _ _ (c .before .before .before .pre) (omega arith) (c .before .before .loop .inv)
-
-same-length : tie.Need-same-length Inv-loop μ-loop
-same-length c = omega arith
 
 returns : tie.Need-returns Inv-loop μ-loop
 returns c =
@@ -44,4 +26,4 @@ returns c =
 
 pub copy-row-u8-spec : {M : Type 1} → statement M
 copy-row-u8-spec =
-    tie.close (tie.spec Inv-loop μ-loop loop-holds shared-slice-read-padded add-padded slice-write-padded add-i loop-less loop-again same-length returns)
+    tie.close (tie.spec Inv-loop μ-loop loop-holds (λ c. omega arith) (λ c. omega arith) (λ c. omega arith) (λ c. omega arith) (λ c. omega arith) loop-again (λ c. omega arith) returns)

@@ -21,20 +21,11 @@ loop-holds c = (omega arith, placed-none _ _ _ _ (c .before .before .pre .3))
 mul-src-offset : tie.Need-mul-src-offset Inv-loop μ-loop
 mul-src-offset c = omega (arith, product (c .before .loop .row) (c .before .before .before .before .args .cols) (omega arith) (omega arith))
 
-row-start-requires : tie.Need-row-start-requires Inv-loop μ-loop
-row-start-requires c κs = search needs
-
 add-copy-row-u16 : tie.Need-add-copy-row-u16 Inv-loop μ-loop
 add-copy-row-u16 c = omega (arith, product (c .before .before .loop .row) (c .before .before .before .before .before .args .cols) (omega arith) (omega arith))
 
 mul-copy-row-u16 : tie.Need-mul-copy-row-u16 Inv-loop μ-loop
 mul-copy-row-u16 c = omega (arith, product (c .before .before .loop .row) (c .before .before .before .before .before .args .cols) (omega arith) (omega arith))
-
-sub-copy-row-u16 : tie.Need-sub-copy-row-u16 Inv-loop μ-loop
-sub-copy-row-u16 c = search needs
-
-part-copy-row-u16-start : tie.Need-part-copy-row-u16-start Inv-loop μ-loop
-part-copy-row-u16-start c = search needs
 
 part-copy-row-u16-end : tie.Need-part-copy-row-u16-end Inv-loop μ-loop
 part-copy-row-u16-end c = omega (arith, row-room (c .before .before .before .before .before .args .rows) (c .before .before .before .before .before .args .cols) (c .before .before .loop .row) (omega arith))
@@ -46,12 +37,6 @@ copy-row-u16-requires c κs =
     let a = f .args in
     let w = row-length (a .rows) (a .cols) (now (a .u16-data)) (f .pre .2) (l .loop .row) (omega arith) in
     omega (arith, room (a .rows) (a .cols) (l .loop .row) (omega arith), l .loop .inv .1 .0, c .before .before .row-start .ensures)
-
-add-row : tie.Need-add-row Inv-loop μ-loop
-add-row c = omega arith
-
-loop-less : tie.Need-loop-less Inv-loop μ-loop
-loop-less c = omega arith
 
 loop-again : tie.Need-loop-again Inv-loop μ-loop
 loop-again c =
@@ -75,5 +60,5 @@ returns c =
 pub place-rows-u16-spec : {M : Type 1} → statement M
 place-rows-u16-spec =
     tie.close
-    (tie.spec Inv-loop μ-loop loop-holds mul-src-offset row-start-requires add-copy-row-u16 mul-copy-row-u16 sub-copy-row-u16 part-copy-row-u16-start part-copy-row-u16-end copy-row-u16-requires add-row
-    loop-less loop-again same-length returns)
+    (tie.spec Inv-loop μ-loop loop-holds mul-src-offset (λ c κs. search needs) add-copy-row-u16 mul-copy-row-u16 (λ c. search needs) (λ c. search needs) part-copy-row-u16-end copy-row-u16-requires (λ c. omega arith)
+    (λ c. omega arith) loop-again same-length returns)

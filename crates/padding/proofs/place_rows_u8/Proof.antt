@@ -21,17 +21,8 @@ loop-holds c = (omega arith, placed-none _ _ _ _ (c .before .before .pre .3))
 mul-src-offset : tie.Need-mul-src-offset Inv-loop μ-loop
 mul-src-offset c = omega (arith, product (c .before .loop .row) (c .before .before .before .before .args .cols) (omega arith) (omega arith))
 
-row-start-requires : tie.Need-row-start-requires Inv-loop μ-loop
-row-start-requires c κs = search needs
-
 add-copy-row-u8 : tie.Need-add-copy-row-u8 Inv-loop μ-loop
 add-copy-row-u8 c = omega (arith, product (c .before .before .loop .row) (c .before .before .before .before .before .args .cols) (omega arith) (omega arith))
-
-sub-copy-row-u8 : tie.Need-sub-copy-row-u8 Inv-loop μ-loop
-sub-copy-row-u8 c = search needs
-
-part-copy-row-u8-start : tie.Need-part-copy-row-u8-start Inv-loop μ-loop
-part-copy-row-u8-start c = search needs
 
 part-copy-row-u8-end : tie.Need-part-copy-row-u8-end Inv-loop μ-loop
 part-copy-row-u8-end c = omega (arith, row-room (c .before .before .before .before .before .args .rows) (c .before .before .before .before .before .args .cols) (c .before .before .loop .row) (omega arith))
@@ -43,12 +34,6 @@ copy-row-u8-requires c κs =
     let a = f .args in
     let w = row-length (a .rows) (a .cols) (now (a .u8-data)) (f .pre .2) (l .loop .row) (omega arith) in
     omega (arith, room (a .rows) (a .cols) (l .loop .row) (omega arith), l .loop .inv .1 .0, c .before .before .row-start .ensures)
-
-add-row : tie.Need-add-row Inv-loop μ-loop
-add-row c = omega arith
-
-loop-less : tie.Need-loop-less Inv-loop μ-loop
-loop-less c = omega arith
 
 loop-again : tie.Need-loop-again Inv-loop μ-loop
 loop-again c =
@@ -72,5 +57,5 @@ returns c =
 pub place-rows-u8-spec : {M : Type 1} → statement M
 place-rows-u8-spec =
     tie.close
-    (tie.spec Inv-loop μ-loop loop-holds mul-src-offset row-start-requires add-copy-row-u8 sub-copy-row-u8 part-copy-row-u8-start part-copy-row-u8-end copy-row-u8-requires add-row
-    loop-less loop-again same-length returns)
+    (tie.spec Inv-loop μ-loop loop-holds mul-src-offset (λ c κs. search needs) add-copy-row-u8 (λ c. search needs) (λ c. search needs) part-copy-row-u8-end copy-row-u8-requires (λ c. omega arith)
+    (λ c. omega arith) loop-again same-length returns)

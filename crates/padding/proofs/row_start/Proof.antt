@@ -6,18 +6,6 @@ use Rattle.padding.proofs.Lengths.{product}
 use Rattle.padding.proofs.row_start.Statement.{statement}
 use Rattle.padding.proofs.row_start.Tie as tie
 
-larger-side-requires : tie.Need-larger-side-requires
-larger-side-requires c κs = search needs
-
-sub-pad-cols : tie.Need-sub-pad-cols
-sub-pad-cols c = search needs
-
-sub-pad-rows : tie.Need-sub-pad-rows
-sub-pad-rows c = search needs
-
-add-result : tie.Need-add-result
-add-result c = search needs
-
 mul-result : tie.Need-mul-result
 mul-result c =
     let a = c .before .args in
@@ -34,4 +22,4 @@ returns : tie.Need-returns
 returns c = simp (c .larger-side .ensures)
 
 pub row-start-spec : {M : Type 1} → statement M
-row-start-spec = tie.close (tie.spec larger-side-requires sub-pad-cols sub-pad-rows add-result mul-result add-result-2 returns)
+row-start-spec = tie.close (tie.spec (λ c κs. search needs) (λ c. search needs) (λ c. search needs) (λ c. search needs) mul-result add-result-2 returns)

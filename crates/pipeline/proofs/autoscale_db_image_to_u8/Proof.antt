@@ -5,7 +5,7 @@ use mathlib.Core.List.{List, []}
 use Prim.Native.Nat.{ℕ}
 use Rattle.types.specs.declared.WindowAnswer.{WindowAnswer}
 use Rattle.spec.specs.Answer.{replyNumber}
-use Rattle.spec.specs.Grey.{values, grey8}
+use Rattle.spec.specs.Grey.{values, autoscaleDbImageToU8}
 use Rattle.spec.specs.Pixels.{pixels}
 use Rattle.spec.specs.Stretch.{stretch}
 use Rattle.spec.specs.Value.{full8}
@@ -14,14 +14,8 @@ use borrow.Author.Needs.{needs}
 use Rattle.pipeline.proofs.autoscale_db_image_to_u8.Statement.{statement}
 use Rattle.pipeline.proofs.autoscale_db_image_to_u8.Tie as tie
 
-grey-window-requires : tie.Need-grey-window-requires
-grey-window-requires c κs = search needs
-
-enum-known-window : tie.Need-enum-known-window
-enum-known-window c = search needs
-
 returns : tie.Need-returns
-unfolding grey8 replyNumber
+unfolding autoscaleDbImageToU8 replyNumber
 returns c =
     let k = c .before in
     let w = k .before .before in
@@ -37,14 +31,8 @@ grey-u8-requires c κs =
     let w = t .before in
     grey-asks _ _ _ _ _ _ _ (λ v. []) (w .grey-window .result) (w .grey-window .ensures) (t .match .keys2)
 
-same-length : tie.Need-same-length
-same-length c = search needs
-
-same-length-2 : tie.Need-same-length-2
-same-length-2 c = search needs
-
 returns-2 : tie.Need-returns-2
-unfolding grey8
+unfolding autoscaleDbImageToU8
 returns-2 c =
     let q = c .before .before .before .before in
     let t = q .before .before .before in
@@ -60,10 +48,10 @@ pub autoscale-db-image-to-u8-spec : {M : Type 1} → statement M
 autoscale-db-image-to-u8-spec =
     tie.close
     (tie.spec
-    grey-window-requires
-    enum-known-window
+    (λ c κs. search needs)
+    (λ c. search needs)
     returns
     grey-u8-requires
-    same-length
-    same-length-2
+    (λ c. search needs)
+    (λ c. search needs)
     returns-2)

@@ -2,21 +2,12 @@
 use denote.Ref.{now}
 use lib.ListN.{length}
 use Rattle.spec.specs.Answer.{replyNumber}
-use Rattle.spec.specs.Picture.{pictureOf}
+use Rattle.spec.specs.Picture.{syntheticRgbPicture}
 use Rattle.pipeline.specs.Windows.{lentLengths}
 use Rattle.pipeline.proofs.Pictures.{picture-refused, picture-asks, picture-done}
 use borrow.Author.Needs.{needs}
 use Rattle.pipeline.proofs.synthetic_rgb_picture.Statement.{statement}
 use Rattle.pipeline.proofs.synthetic_rgb_picture.Tie as tie
-
-picture-windows-requires : tie.Need-picture-windows-requires
-picture-windows-requires c κs = search needs
-
-enum-known-answer : tie.Need-enum-known-answer
-enum-known-answer c = search needs
-
-enum-known-answer-2 : tie.Need-enum-known-answer-2
-enum-known-answer-2 c = search needs
 
 paint-picture-requires : tie.Need-paint-picture-requires
 paint-picture-requires c κs =
@@ -28,7 +19,7 @@ paint-picture-requires c κs =
     (g .0 .0) (g .0 .1 .0) (g .1)
 
 returns : tie.Need-returns
-unfolding pictureOf replyNumber
+unfolding syntheticRgbPicture replyNumber
 returns c =
     let g = c .before .answer .given in
     let w = c .before .before .before in
@@ -37,20 +28,8 @@ returns c =
     (lentLengths (length (now (a .grey1))) (length (now (a .grey2))) (length (now (a .rgb))) (length (now (a .work)))) (w .picture-windows .result) (w .picture-windows .ensures)
     (g .0 .0) (g .1)
 
-same-length : tie.Need-same-length
-same-length c = search needs
-
-same-length-2 : tie.Need-same-length-2
-same-length-2 c = search needs
-
-same-length-3 : tie.Need-same-length-3
-same-length-3 c = search needs
-
-same-length-4 : tie.Need-same-length-4
-same-length-4 c = search needs
-
 returns-2 : tie.Need-returns-2
-unfolding pictureOf replyNumber
+unfolding syntheticRgbPicture replyNumber
 returns-2 c =
     let l = c .before .before .before .before .before .before .before .before .paint-picture in
     let g = c .before .before .before .before .before .before .before .before .before .before .before .before .before .before .answer2 .given in
@@ -65,13 +44,13 @@ pub synthetic-rgb-picture-spec : {M : Type 1} → statement M
 synthetic-rgb-picture-spec =
     tie.close
     (tie.spec
-    picture-windows-requires
-    enum-known-answer
-    enum-known-answer-2
+    (λ c κs. search needs)
+    (λ c. search needs)
+    (λ c. search needs)
     paint-picture-requires
     returns
-    same-length
-    same-length-2
-    same-length-3
-    same-length-4
+    (λ c. search needs)
+    (λ c. search needs)
+    (λ c. search needs)
+    (λ c. search needs)
     returns-2)

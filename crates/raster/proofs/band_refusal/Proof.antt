@@ -4,17 +4,14 @@ use mathlib.Core.Bool.{Bool}
 use mathlib.Core.List.{List, [], _∷_}
 use Prim.Native.Nat.{ℕ}
 use lib.Ieee.{Float}
-use Rattle.spec.specs.Refusals.{tooWide, notNamed, badMark}
+use Rattle.spec.specs.Refusals.{sidesRefused, lengthsRefused, marksRefused}
 use Rattle.raster.proofs.Bands.{shape-accepted, first-here, first-not-here, first-none, first-stays, first-later}
 use borrow.Author.Needs.{needs}
 use Rattle.raster.proofs.band_refusal.Statement.{statement}
 use Rattle.raster.proofs.band_refusal.Tie as tie
 
 abbrev tests : ℕ → ℕ → List ℕ → List Float → List Bool
-tests rows cols m d = tooWide rows cols ∷ notNamed rows cols m d ∷ badMark m ∷ []
-
-shape-refusal-requires : tie.Need-shape-refusal-requires
-shape-refusal-requires c κs = search needs
+tests rows cols m d = sidesRefused rows cols ∷ lengthsRefused rows cols m d ∷ marksRefused m ∷ []
 
 returns : tie.Need-returns
 returns c =
@@ -44,4 +41,4 @@ returns-3 c =
 pub band-refusal-spec : {M : Type 1} → statement M
 band-refusal-spec =
     tie.close
-    (tie.spec shape-refusal-requires returns decibels-refused-requires returns-2 returns-3)
+    (tie.spec (λ c κs. search needs) returns decibels-refused-requires returns-2 returns-3)

@@ -9,37 +9,25 @@ use lib.ListN.{length, drop, getD}
 use lib.Ieee.{nan}
 use Rattle.spec.specs.Lists.{any}
 use Rattle.spec.specs.Pixels.{pixels, off, on}
-use Rattle.spec.specs.Refusals.{badPixel, badDecibel}
+use Rattle.spec.specs.Refusals.{decibelRefused, decibelsRefused}
 use Rattle.raster.proofs.Bands.{next-off, next-on, drop-end}
 use Rattle.raster.proofs.Passes.{any-here, any-not-here, any-none}
 use Rattle.raster.proofs.decibels_refused.Statement.{statement}
 use Rattle.raster.proofs.decibels_refused.Tie as tie
 
-bad-off : badPixel off ≡ false
-unfolding badPixel
+bad-off : decibelRefused off ≡ false
+unfolding decibelRefused
 bad-off = refl
 
 abbrev Inv-loop : tie.InvT-loop
-Inv-loop db valid-mask i₀ i = (i ≤ length db) × (badDecibel (pixels valid-mask db) ≡ any badPixel (drop i (pixels valid-mask db)))
+Inv-loop db valid-mask i₀ i = (i ≤ length db) × (decibelsRefused (pixels valid-mask db) ≡ any decibelRefused (drop i (pixels valid-mask db)))
 
 abbrev μ-loop : tie.MeasureT-loop
 μ-loop db valid-mask i₀ i = length db - i
 
 loop-holds : tie.Need-loop-holds Inv-loop μ-loop
-unfolding badDecibel
+unfolding decibelsRefused
 loop-holds c = (omega arith, refl)
-
-shared-slice-read-if1 : tie.Need-shared-slice-read-if1 Inv-loop μ-loop
-shared-slice-read-if1 c = search needs
-
-mul-decibel-refused : tie.Need-mul-decibel-refused Inv-loop μ-loop
-mul-decibel-refused c = search needs
-
-shared-slice-read-decibel-refused : tie.Need-shared-slice-read-decibel-refused Inv-loop μ-loop
-shared-slice-read-decibel-refused c = search needs
-
-decibel-refused-requires : tie.Need-decibel-refused-requires Inv-loop μ-loop
-decibel-refused-requires c κs = search needs
 
 returns : tie.Need-returns Inv-loop μ-loop
 returns c =
@@ -47,14 +35,8 @@ returns c =
     let a = l .before .before .before .args in
     let i = l .loop .i in
     sym (l .loop .inv .1
-    ∙ ap (any badPixel) (next-on (a .valid-mask .now) (a .db .now) i (omega arith) (omega arith) (c .before .before .before .if1 .taken))
-    ∙ any-here badPixel (on (getD (a .db .now) i nan)) _ (sym (c .before .decibel-refused .ensures) ∙ c .if2 .taken))
-
-add-i : tie.Need-add-i Inv-loop μ-loop
-add-i c = search needs
-
-loop-less : tie.Need-loop-less Inv-loop μ-loop
-loop-less c = search needs
+    ∙ ap (any decibelRefused) (next-on (a .valid-mask .now) (a .db .now) i (omega arith) (omega arith) (c .before .before .before .if1 .taken))
+    ∙ any-here decibelRefused (on (getD (a .db .now) i nan)) _ (sym (c .before .decibel-refused .ensures) ∙ c .if2 .taken))
 
 loop-again : tie.Need-loop-again Inv-loop μ-loop
 loop-again c =
@@ -66,17 +48,17 @@ loop-again c =
     ⊎-elim
     (λ w. (
       omega arith,
-      l .loop .inv .1 ∙ ap (any badPixel) (next-on m d i (omega arith) (omega arith) (w .0 .taken))
-          ∙ any-not-here badPixel (on (getD d i nan)) _ (sym (w .2 .ensures) ∙ w .3 .left),
+      l .loop .inv .1 ∙ ap (any decibelRefused) (next-on m d i (omega arith) (omega arith) (w .0 .taken))
+          ∙ any-not-here decibelRefused (on (getD d i nan)) _ (sym (w .2 .ensures) ∙ w .3 .left),
     ))
-    (λ w. (omega arith, l .loop .inv .1 ∙ ap (any badPixel) (next-off m d i (omega arith) (omega arith) (w .left)) ∙ any-not-here badPixel off _ bad-off))
+    (λ w. (omega arith, l .loop .inv .1 ∙ ap (any decibelRefused) (next-off m d i (omega arith) (omega arith) (w .left)) ∙ any-not-here decibelRefused off _ bad-off))
     (c .if1 .came)
 
 returns-2 : tie.Need-returns-2 Inv-loop μ-loop
 returns-2 c =
     let l = c .before in
     let a = l .before .before .before .args in
-    sym (l .loop .inv .1 ∙ ap (any badPixel) (drop-end (a .valid-mask .now) (a .db .now) (l .loop .i) (omega arith)) ∙ any-none badPixel)
+    sym (l .loop .inv .1 ∙ ap (any decibelRefused) (drop-end (a .valid-mask .now) (a .db .now) (l .loop .i) (omega arith)) ∙ any-none decibelRefused)
 
 pub decibels-refused-spec : {M : Type 1} → statement M
 decibels-refused-spec =
@@ -85,12 +67,12 @@ decibels-refused-spec =
     Inv-loop
     μ-loop
     loop-holds
-    shared-slice-read-if1
-    mul-decibel-refused
-    shared-slice-read-decibel-refused
-    decibel-refused-requires
+    (λ c. search needs)
+    (λ c. search needs)
+    (λ c. search needs)
+    (λ c κs. search needs)
     returns
-    add-i
-    loop-less
+    (λ c. search needs)
+    (λ c. search needs)
     loop-again
     returns-2)

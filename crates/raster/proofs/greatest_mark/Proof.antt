@@ -16,18 +16,6 @@ Inv-loop valid-mask greatest₀ i₀ greatest i = (i ≤ length valid-mask) × (
 abbrev μ-loop : tie.MeasureT-loop
 μ-loop valid-mask greatest₀ i₀ greatest i = length valid-mask - i
 
-loop-holds : tie.Need-loop-holds Inv-loop μ-loop
-loop-holds c = search needs
-
-shared-slice-read-mark : tie.Need-shared-slice-read-mark Inv-loop μ-loop
-shared-slice-read-mark c = search needs
-
-add-i : tie.Need-add-i Inv-loop μ-loop
-add-i c = search needs
-
-loop-less : tie.Need-loop-less Inv-loop μ-loop
-loop-less c = search needs
-
 loop-again : tie.Need-loop-again Inv-loop μ-loop
 loop-again c =
     let l = c .before .before .before in
@@ -45,4 +33,4 @@ returns c =
 pub greatest-mark-spec : {M : Type 1} → statement M
 greatest-mark-spec =
     tie.close
-    (tie.spec Inv-loop μ-loop loop-holds shared-slice-read-mark add-i loop-less loop-again returns)
+    (tie.spec Inv-loop μ-loop (λ c. search needs) (λ c. search needs) (λ c. search needs) (λ c. search needs) loop-again returns)

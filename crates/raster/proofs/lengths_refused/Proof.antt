@@ -2,7 +2,7 @@
 use native.Mathlib.Nat.{mul-le-mul}
 use native.Mathlib.Omega.{arith}
 use borrow.Author.Tests.{eq-eqb, ne-eqb}
-use Rattle.spec.specs.Refusals.{notNamed, unlike}
+use Rattle.spec.specs.Refusals.{lengthsRefused, unlike}
 use Rattle.raster.proofs.lengths_refused.Statement.{statement}
 use Rattle.raster.proofs.lengths_refused.Tie as tie
 
@@ -10,11 +10,11 @@ mul-n : tie.Need-mul-n
 mul-n c = omega (arith, mul-le-mul (c .pre .0) (c .pre .1))
 
 returns : tie.Need-returns
-unfolding notNamed unlike
+unfolding lengthsRefused unlike
 returns c = rw (ne-eqb _ _ (c .if1 .taken))
 
 returns-2 : tie.Need-returns-2
-unfolding notNamed unlike
+unfolding lengthsRefused unlike
 returns-2 c = rw (eq-eqb _ _ (c .if1 .left))
 
 pub lengths-refused-spec : {M : Type 1} → statement M

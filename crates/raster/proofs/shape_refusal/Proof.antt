@@ -6,9 +6,6 @@ use borrow.Author.Needs.{needs}
 use Rattle.raster.proofs.shape_refusal.Statement.{statement}
 use Rattle.raster.proofs.shape_refusal.Tie as tie
 
-sides-refused-requires : tie.Need-sides-refused-requires
-sides-refused-requires c κs = search needs
-
 returns : tie.Need-returns
 unfolding firstOf
 returns c = rw (sym (c .before .sides-refused .ensures) ∙ c .if1 .taken)
@@ -21,9 +18,6 @@ unfolding firstOf
 returns-2 c =
     let s = c .before .before in
     rw (sym (s .before .sides-refused .ensures) ∙ s .if1 .left, sym (c .before .lengths-refused .ensures) ∙ c .if2 .taken)
-
-marks-refused-requires : tie.Need-marks-refused-requires
-marks-refused-requires c κs = search needs
 
 returns-3 : tie.Need-returns-3
 unfolding firstOf
@@ -43,10 +37,10 @@ pub shape-refusal-spec : {M : Type 1} → statement M
 shape-refusal-spec =
     tie.close
     (tie.spec
-    sides-refused-requires
+    (λ c κs. search needs)
     returns
     lengths-refused-requires
     returns-2
-    marks-refused-requires
+    (λ c κs. search needs)
     returns-3
     returns-4)

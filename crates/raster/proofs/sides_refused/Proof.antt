@@ -1,15 +1,15 @@
 -- `raster::sides_refused` meets its contract. Assumes nothing.
 use borrow.Author.Tests.{lt-ltb, le-ltb}
-use Rattle.spec.specs.Refusals.{tooWide}
+use Rattle.spec.specs.Refusals.{sidesRefused}
 use Rattle.raster.proofs.sides_refused.Statement.{statement}
 use Rattle.raster.proofs.sides_refused.Tie as tie
 
 returns : tie.Need-returns
-unfolding tooWide
+unfolding sidesRefused
 returns c = rw (lt-ltb 4096 (c .before .args .rows) (c .if1 .taken))
 
 returns-2 : tie.Need-returns-2
-unfolding tooWide
+unfolding sidesRefused
 returns-2 c = rw (le-ltb 4096 (c .before .args .rows) (c .if1 .left))
 
 pub sides-refused-spec : {M : Type 1} → statement M

@@ -19,24 +19,6 @@ abbrev μ-loop : tie.MeasureT-loop
 loop-holds : tie.Need-loop-holds Inv-loop μ-loop
 loop-holds c = (omega arith, refl, refl)
 
-mul-x : tie.Need-mul-x Inv-loop μ-loop
-mul-x c = omega arith
-
-shared-slice-read-x : tie.Need-shared-slice-read-x Inv-loop μ-loop
-shared-slice-read-x c = omega arith
-
-min-u16-requires : tie.Need-min-u16-requires Inv-loop μ-loop
-min-u16-requires c κs = search needs
-
-max-u16-requires : tie.Need-max-u16-requires Inv-loop μ-loop
-max-u16-requires c κs = search needs
-
-add-i : tie.Need-add-i Inv-loop μ-loop
-add-i c = omega arith
-
-loop-less : tie.Need-loop-less Inv-loop μ-loop
-loop-less c = omega arith
-
 loop-again : tie.Need-loop-again Inv-loop μ-loop
 loop-again c =
     let l = c .before .before .before .before in
@@ -55,4 +37,4 @@ returns c =
     (sym (ap (lowest (l .loop .lo)) none) ∙ l .loop .inv .1, sym (ap (highest (l .loop .hi)) none) ∙ l .loop .inv .2)
 
 pub ends-of-spec : {M : Type 1} → statement M
-ends-of-spec = tie.close (tie.spec Inv-loop μ-loop loop-holds mul-x shared-slice-read-x min-u16-requires max-u16-requires add-i loop-less loop-again returns)
+ends-of-spec = tie.close (tie.spec Inv-loop μ-loop loop-holds (λ c. omega arith) (λ c. omega arith) (λ c κs. search needs) (λ c κs. search needs) (λ c. omega arith) (λ c. omega arith) loop-again returns)

@@ -20,21 +20,6 @@ abbrev μ-loop : tie.MeasureT-loop
 loop-holds : tie.Need-loop-holds Inv-loop μ-loop
 loop-holds c = (omega arith, refl, λ k h. absurd (not-suc-le-zero h))
 
-cast-stretch-byte : tie.Need-cast-stretch-byte Inv-loop μ-loop
-cast-stretch-byte c = omega arith
-
-stretch-byte-requires : tie.Need-stretch-byte-requires Inv-loop μ-loop
-stretch-byte-requires c κs = search needs
-
-slice-write-table : tie.Need-slice-write-table Inv-loop μ-loop
-slice-write-table c = omega arith
-
-add-i : tie.Need-add-i Inv-loop μ-loop
-add-i c = omega arith
-
-loop-less : tie.Need-loop-less Inv-loop μ-loop
-loop-less c = omega arith
-
 loop-again : tie.Need-loop-again Inv-loop μ-loop
 loop-again c =
     let l = c .before .before in
@@ -45,11 +30,8 @@ loop-again c =
       stored (λ k x. x ≡ stretchByte (a .lo) (a .hi) k) t (l .loop .i) (c .stretch-byte .result) (omega arith) (l .loop .inv .2) (c .stretch-byte .ensures),
     )
 
-same-length : tie.Need-same-length Inv-loop μ-loop
-same-length c = omega arith
-
 returns : tie.Need-returns Inv-loop μ-loop
 returns c = λ k h. c .before .loop .inv .2 k (omega arith)
 
 pub fill-table-spec : {M : Type 1} → statement M
-fill-table-spec = tie.close (tie.spec Inv-loop μ-loop loop-holds cast-stretch-byte stretch-byte-requires slice-write-table add-i loop-less loop-again same-length returns)
+fill-table-spec = tie.close (tie.spec Inv-loop μ-loop loop-holds (λ c. omega arith) (λ c κs. search needs) (λ c. omega arith) (λ c. omega arith) (λ c. omega arith) loop-again (λ c. omega arith) returns)

@@ -17,23 +17,11 @@ abbrev μ-loop : tie.MeasureT-loop
 loop-holds : tie.Need-loop-holds Inv-loop μ-loop
 loop-holds c = (omega arith, refl, refl, refl)
 
-slice-read-x : tie.Need-slice-read-x Inv-loop μ-loop
-slice-read-x c = omega arith
-
 cast-x : tie.Need-cast-x Inv-loop μ-loop
 cast-x c = omega (arith, c .slice-known .given (c .before .before .loop .i))
 
 element-copy-out-bytes : tie.Need-element-copy-out-bytes Inv-loop μ-loop
 element-copy-out-bytes c = omega (arith, c .slice-known .given (c .before .before .loop .i))
-
-slice-write-bytes : tie.Need-slice-write-bytes Inv-loop μ-loop
-slice-write-bytes c = omega arith
-
-add-i : tie.Need-add-i Inv-loop μ-loop
-add-i c = omega arith
-
-loop-less : tie.Need-loop-less Inv-loop μ-loop
-loop-less c = omega arith
 
 loop-again : tie.Need-loop-again Inv-loop μ-loop
 loop-again c =
@@ -48,13 +36,10 @@ loop-again c =
       s .1,
     )
 
-same-length : tie.Need-same-length Inv-loop μ-loop
-same-length c = omega arith
-
 returns : tie.Need-returns Inv-loop μ-loop
 returns c =
     let a = c .before .before .args in
     placed (λ x. getD (now (a .table)) x 0) 0 (now (a .bytes)) (c .before .loop .bytes) (c .before .loop .i) (c .before .loop .inv) (c .loop-test .left)
 
 pub look-up-bytes-spec : {M : Type 1} → statement M
-look-up-bytes-spec = tie.close (tie.spec Inv-loop μ-loop loop-holds slice-read-x cast-x element-copy-out-bytes slice-write-bytes add-i loop-less loop-again same-length returns)
+look-up-bytes-spec = tie.close (tie.spec Inv-loop μ-loop loop-holds (λ c. omega arith) cast-x element-copy-out-bytes (λ c. omega arith) (λ c. omega arith) (λ c. omega arith) loop-again (λ c. omega arith) returns)

@@ -25,15 +25,6 @@ returns-2 c =
     let e = unlike-refused (now (a .«data»)) (length (now (a .out))) (c .if2 .taken) in
     (sym (ap number e), sym (ap (λ (q : Answer (List ℕ)). after (λ l. l) q (now (a .out))) e))
 
-ends-of-requires : tie.Need-ends-of-requires
-ends-of-requires c κs = search needs
-
-stretch-each-requires : tie.Need-stretch-each-requires
-stretch-each-requires c κs = search needs
-
-same-length : tie.Need-same-length
-same-length c = search needs
-
 returns-3 : tie.Need-returns-3
 unfolding replyNumber number after
 returns-3 c =
@@ -44,12 +35,6 @@ returns-3 c =
     let e = stretch-done xs (length (now (a .out))) (omega arith) (omega arith) in
     let s = stretch-by (n .ends-of .result .lo) (n .ends-of .result .hi) xs (m .stretch-each .last .1 .1 .1 .0) (n .ends-of .ensures .0) (n .ends-of .ensures .1) (m .stretch-each .ensures) in
     (sym (ap number e), s ∙ sym (ap (λ (q : Answer (List ℕ)). after (λ l. l) q (now (a .out))) e))
-
-stretch-by-table-requires : tie.Need-stretch-by-table-requires
-stretch-by-table-requires c κs = search needs
-
-same-length-2 : tie.Need-same-length-2
-same-length-2 c = search needs
 
 returns-4 : tie.Need-returns-4
 unfolding replyNumber number after
@@ -68,10 +53,10 @@ scale-u16-to-u8-spec =
     (tie.spec
     returns
     returns-2
-    ends-of-requires
-    stretch-each-requires
-    same-length
+    (λ c κs. search needs)
+    (λ c κs. search needs)
+    (λ c. search needs)
     returns-3
-    stretch-by-table-requires
-    same-length-2
+    (λ c κs. search needs)
+    (λ c. search needs)
     returns-4)

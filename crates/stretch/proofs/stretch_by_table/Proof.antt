@@ -9,15 +9,6 @@ use Rattle.stretch.proofs.Loops.{under-highest, map-agree}
 use Rattle.stretch.proofs.stretch_by_table.Statement.{statement}
 use Rattle.stretch.proofs.stretch_by_table.Tie as tie
 
-fill-values-requires : tie.Need-fill-values-requires
-fill-values-requires c κs = search needs
-
-look-up-requires : tie.Need-look-up-requires
-look-up-requires c κs = search needs
-
-same-length : tie.Need-same-length
-same-length c = search needs
-
 returns : tie.Need-returns
 returns c =
     let f = c .before .before .before .before .before in
@@ -27,4 +18,4 @@ returns c =
     c .before .before .look-up .ensures ∙ map-agree (λ x. getD (f .fill-values .last .1 .1 .0) x 0) (stretchByte (a .lo) (a .hi)) 0 xs (λ k h. f .fill-values .ensures (getD xs k 0) (omega (arith, under-highest 0 xs k h, p .1)))
 
 pub stretch-by-table-spec : {M : Type 1} → statement M
-stretch-by-table-spec = tie.close (tie.spec fill-values-requires look-up-requires same-length returns)
+stretch-by-table-spec = tie.close (tie.spec (λ c κs. search needs) (λ c κs. search needs) (λ c. search needs) returns)

@@ -5,21 +5,6 @@ use Rattle.spec.specs.Stretch.{stretchByte}
 use Rattle.stretch.proofs.stretch_byte.Statement.{statement}
 use Rattle.stretch.proofs.stretch_byte.Tie as tie
 
-int-to-float-scale : tie.Need-int-to-float-scale
-int-to-float-scale c = search needs
-
-int-to-float-scale-2 : tie.Need-int-to-float-scale-2
-int-to-float-scale-2 c = search needs
-
-int-to-float-round-byte : tie.Need-int-to-float-round-byte
-int-to-float-round-byte c = search needs
-
-int-to-float-round-byte-2 : tie.Need-int-to-float-round-byte-2
-int-to-float-round-byte-2 c = search needs
-
-round-byte-requires : tie.Need-round-byte-requires
-round-byte-requires c κs = search needs
-
 returns : tie.Need-returns
 unfolding stretchByte
 returns c = rw (lt-ltb _ _ (c .before .before .before .before .before .if1 .taken)) (c .round-byte .ensures)
@@ -32,10 +17,10 @@ pub stretch-byte-spec : {M : Type 1} → statement M
 stretch-byte-spec =
     tie.close
     (tie.spec
-    int-to-float-scale
-    int-to-float-scale-2
-    int-to-float-round-byte
-    int-to-float-round-byte-2
-    round-byte-requires
+    (λ c. search needs)
+    (λ c. search needs)
+    (λ c. search needs)
+    (λ c. search needs)
+    (λ c κs. search needs)
     returns
     returns-2)

@@ -19,15 +19,6 @@ returns c =
     sym (ap (λ (l : ℕ). map (stretchByte l (a .hi)) (now (a .bytes))) (c .before .if1 .taken) ∙ ap (λ (h : ℕ). map (stretchByte 0 h) (now (a .bytes))) (c .if2 .taken)
     ∙ full-same (now (a .bytes)) (λ k. omega (arith, n .slice-known .given k)))
 
-fill-bytes-requires : tie.Need-fill-bytes-requires
-fill-bytes-requires c κs = search needs
-
-look-up-bytes-requires : tie.Need-look-up-bytes-requires
-look-up-bytes-requires c κs = search needs
-
-same-length : tie.Need-same-length
-same-length c = search needs
-
 returns-2 : tie.Need-returns-2
 returns-2 c =
     let f = c .before .before .before .before .before in
@@ -39,4 +30,4 @@ returns-2 c =
 
 pub stretch-bytes-spec : {M : Type 1} → statement M
 stretch-bytes-spec =
-    tie.close (tie.spec returns fill-bytes-requires look-up-bytes-requires same-length returns-2)
+    tie.close (tie.spec returns (λ c κs. search needs) (λ c κs. search needs) (λ c. search needs) returns-2)

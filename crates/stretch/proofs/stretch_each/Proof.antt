@@ -19,24 +19,6 @@ abbrev μ-loop : tie.MeasureT-loop
 loop-holds : tie.Need-loop-holds Inv-loop μ-loop
 loop-holds c = (omega arith, c .before .before .pre, refl)
 
-mul-stretch-byte : tie.Need-mul-stretch-byte Inv-loop μ-loop
-mul-stretch-byte c = omega arith
-
-shared-slice-read-stretch-byte : tie.Need-shared-slice-read-stretch-byte Inv-loop μ-loop
-shared-slice-read-stretch-byte c = omega arith
-
-stretch-byte-requires : tie.Need-stretch-byte-requires Inv-loop μ-loop
-stretch-byte-requires c κs = search needs
-
-slice-write-out : tie.Need-slice-write-out Inv-loop μ-loop
-slice-write-out c = omega arith
-
-add-i : tie.Need-add-i Inv-loop μ-loop
-add-i c = omega arith
-
-loop-less : tie.Need-loop-less Inv-loop μ-loop
-loop-less c = omega arith
-
 loop-again : tie.Need-loop-again Inv-loop μ-loop
 loop-again c =
     let l = c .before .before .before in
@@ -47,13 +29,10 @@ loop-again c =
       step (stretchByte (a .lo) (a .hi)) 0 (now (a .«data»)) b (l .loop .i) (c .stretch-byte .result) (omega arith) (l .loop .inv .1) (c .stretch-byte .ensures) (l .loop .inv .2),
     )
 
-same-length : tie.Need-same-length Inv-loop μ-loop
-same-length c = omega arith
-
 returns : tie.Need-returns Inv-loop μ-loop
 returns c =
     let a = c .before .before .before .before .args in
     finish (stretchByte (a .lo) (a .hi)) 0 (now (a .«data»)) (c .before .loop .out) (c .before .loop .i) (c .before .loop .inv) (c .loop-test .left)
 
 pub stretch-each-spec : {M : Type 1} → statement M
-stretch-each-spec = tie.close (tie.spec Inv-loop μ-loop loop-holds mul-stretch-byte shared-slice-read-stretch-byte stretch-byte-requires slice-write-out add-i loop-less loop-again same-length returns)
+stretch-each-spec = tie.close (tie.spec Inv-loop μ-loop loop-holds (λ c. omega arith) (λ c. omega arith) (λ c κs. search needs) (λ c. omega arith) (λ c. omega arith) (λ c. omega arith) loop-again (λ c. omega arith) returns)

@@ -34,23 +34,11 @@ other-arm Clahe k = absurd (miss (0 ∷ 1 ∷ 2 ∷ 3 ∷ 6 ∷ []) 4 tt k)
 other-arm Tamed k = absurd (miss (0 ∷ 1 ∷ 2 ∷ 3 ∷ 6 ∷ []) 5 tt k)
 other-arm Default k = refl
 
-create-synthetic-rgb-suppressed-requires : tie.Need-create-synthetic-rgb-suppressed-requires
-create-synthetic-rgb-suppressed-requires c κs = search needs
-
-create-synthetic-rgb-by-mode-requires : tie.Need-create-synthetic-rgb-by-mode-requires
-create-synthetic-rgb-by-mode-requires c κs = search needs
-
-same-length : tie.Need-same-length
-same-length c = search needs
-
 returns : tie.Need-returns
 unfolding coloursOf
 returns c =
     let m = c .before .before .before .before .before in
     rw (suppressed-arm (m .before .before .before .before .args .strategy) (m .match .keys1)) (c .before .before .create-synthetic-rgb-suppressed .ensures)
-
-same-length-2 : tie.Need-same-length-2
-same-length-2 c = search needs
 
 returns-2 : tie.Need-returns-2
 unfolding coloursOf
@@ -62,9 +50,9 @@ pub compose-by-mode-and-strategy-spec : {M : Type 1} → statement M
 compose-by-mode-and-strategy-spec =
     tie.close
     (tie.spec
-    create-synthetic-rgb-suppressed-requires
-    create-synthetic-rgb-by-mode-requires
-    same-length
+    (λ c κs. search needs)
+    (λ c κs. search needs)
+    (λ c. search needs)
     returns
-    same-length-2
+    (λ c. search needs)
     returns-2)

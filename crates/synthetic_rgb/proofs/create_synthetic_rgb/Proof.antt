@@ -5,26 +5,11 @@ use borrow.Author.Needs.{needs}
 use Rattle.synthetic_rgb.proofs.create_synthetic_rgb.Statement.{statement}
 use Rattle.synthetic_rgb.proofs.create_synthetic_rgb.Tie as tie
 
-red-table-requires : tie.Need-red-table-requires
-red-table-requires c κs = search needs
-
-green-table-requires : tie.Need-green-table-requires
-green-table-requires c κs = search needs
-
-blue-thresholds-requires : tie.Need-blue-thresholds-requires
-blue-thresholds-requires c κs = search needs
-
-slice-aggregate-colours : tie.Need-slice-aggregate-colours
-slice-aggregate-colours c = search needs
-
 colours-requires : tie.Need-colours-requires
 unfolding redOf greenOf scaleOf
 colours-requires c κs =
     let t = c .before .before .before .before in
     (record { reds = t .before .before .red-table .ensures; greens = t .before .green-table .ensures; ratios = t .blue-thresholds .ensures }, search needs, search needs)
-
-same-length : tie.Need-same-length
-same-length c = search needs
 
 returns : tie.Need-returns
 returns c = rw colour-plain at (c .before .before .colours .ensures)
@@ -33,10 +18,10 @@ pub create-synthetic-rgb-spec : {M : Type 1} → statement M
 create-synthetic-rgb-spec =
     tie.close
     (tie.spec
-    red-table-requires
-    green-table-requires
-    blue-thresholds-requires
-    slice-aggregate-colours
+    (λ c κs. search needs)
+    (λ c κs. search needs)
+    (λ c κs. search needs)
+    (λ c. search needs)
     colours-requires
-    same-length
+    (λ c. search needs)
     returns)

@@ -3,34 +3,25 @@ use mathlib.Core.Path.{refl}
 use borrow.Author.Tests.{eq-eqb, ne-eqb, lt-ltb, le-ltb}
 use Rattle.spec.specs.Answer.{firstOf, orRefused, answer, number, replyNumber, after}
 use Rattle.spec.specs.Refusals.{unlike, tooLong}
-use Rattle.spec.specs.Colour.{composition}
+use Rattle.spec.specs.Colour.{createSyntheticRgbByModeAndStrategy}
 use borrow.Author.Needs.{needs}
 use Rattle.synthetic_rgb.proofs.create_synthetic_rgb_by_mode_and_strategy.Statement.{statement}
 use Rattle.synthetic_rgb.proofs.create_synthetic_rgb_by_mode_and_strategy.Tie as tie
 
 returns : tie.Need-returns
-unfolding composition unlike tooLong firstOf answer orRefused number replyNumber after
+unfolding createSyntheticRgbByModeAndStrategy unlike tooLong firstOf answer orRefused number replyNumber after
 returns c = rw (ne-eqb _ _ (c .if1 .taken)) (refl, refl)
 
 returns-2 : tie.Need-returns-2
-unfolding composition unlike tooLong firstOf answer orRefused number replyNumber after
+unfolding createSyntheticRgbByModeAndStrategy unlike tooLong firstOf answer orRefused number replyNumber after
 returns-2 c = rw (eq-eqb _ _ (c .before .if1 .left), lt-ltb _ _ (c .if2 .taken)) (refl, refl)
 
-mul-if3 : tie.Need-mul-if3
-mul-if3 c = search needs
-
 returns-3 : tie.Need-returns-3
-unfolding composition unlike tooLong firstOf answer orRefused number replyNumber after
+unfolding createSyntheticRgbByModeAndStrategy unlike tooLong firstOf answer orRefused number replyNumber after
 returns-3 c = rw (eq-eqb _ _ (c .before .before .if1 .left), le-ltb _ _ (c .before .if2 .left), ne-eqb _ _ (c .if3 .taken)) (refl, refl)
 
-compose-by-mode-and-strategy-requires : tie.Need-compose-by-mode-and-strategy-requires
-compose-by-mode-and-strategy-requires c κs = search needs
-
-same-length : tie.Need-same-length
-same-length c = search needs
-
 returns-4 : tie.Need-returns-4
-unfolding composition unlike tooLong firstOf answer orRefused number replyNumber after
+unfolding createSyntheticRgbByModeAndStrategy unlike tooLong firstOf answer orRefused number replyNumber after
 returns-4 c =
     let t = c .before .before .before .before in
     rw (eq-eqb _ _ (t .before .before .if1 .left), le-ltb _ _ (t .before .if2 .left), eq-eqb _ _ (t .if3 .left)) (refl, c .before .before .compose-by-mode-and-strategy .ensures)
@@ -41,8 +32,8 @@ create-synthetic-rgb-by-mode-and-strategy-spec =
     (tie.spec
     returns
     returns-2
-    mul-if3
+    (λ c. search needs)
     returns-3
-    compose-by-mode-and-strategy-requires
-    same-length
+    (λ c κs. search needs)
+    (λ c. search needs)
     returns-4)

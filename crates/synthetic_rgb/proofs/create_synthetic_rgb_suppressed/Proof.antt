@@ -7,39 +7,21 @@ use borrow.Author.Needs.{needs}
 use Rattle.synthetic_rgb.proofs.create_synthetic_rgb_suppressed.Statement.{statement}
 use Rattle.synthetic_rgb.proofs.create_synthetic_rgb_suppressed.Tie as tie
 
-floor-level-requires : tie.Need-floor-level-requires
-floor-level-requires c κs = search needs
-
-cast-red-above-table : tie.Need-cast-red-above-table
-cast-red-above-table c = search needs
-
 red-above-table-requires : tie.Need-red-above-table-requires
 red-above-table-requires c κs =
     let a = c .before .before .before .before .args in
     rw (c .floor-level .ensures) (floor-range (a .band1-data .now) (a .band2-data .now))
-
-cast-green-above-table : tie.Need-cast-green-above-table
-cast-green-above-table c = search needs
 
 green-above-table-requires : tie.Need-green-above-table-requires
 green-above-table-requires c κs =
     let a = c .before .before .before .before .before .args in
     rw (c .before .floor-level .ensures) (floor-range (a .band1-data .now) (a .band2-data .now))
 
-blue-above-thresholds-requires : tie.Need-blue-above-thresholds-requires
-blue-above-thresholds-requires c κs = search needs
-
-slice-aggregate-colours : tie.Need-slice-aggregate-colours
-slice-aggregate-colours c = search needs
-
 colours-requires : tie.Need-colours-requires
 unfolding redOf greenOf scaleOf
 colours-requires c κs =
     let t = c .before .before .before .before in
     (record { reds = t .before .before .red-above-table .ensures; greens = t .before .green-above-table .ensures; ratios = t .blue-above-thresholds .ensures }, search needs, search needs)
-
-same-length : tie.Need-same-length
-same-length c = search needs
 
 returns : tie.Need-returns
 returns c =
@@ -53,13 +35,13 @@ pub create-synthetic-rgb-suppressed-spec : {M : Type 1} → statement M
 create-synthetic-rgb-suppressed-spec =
     tie.close
     (tie.spec
-    floor-level-requires
-    cast-red-above-table
+    (λ c κs. search needs)
+    (λ c. search needs)
     red-above-table-requires
-    cast-green-above-table
+    (λ c. search needs)
     green-above-table-requires
-    blue-above-thresholds-requires
-    slice-aggregate-colours
+    (λ c κs. search needs)
+    (λ c. search needs)
     colours-requires
-    same-length
+    (λ c. search needs)
     returns)

@@ -12,45 +12,18 @@ Inv-loop b list to₀ n i₀ to i = (i ≤ n) × (length to ≡ 4096)
 abbrev μ-loop : tie.MeasureT-loop
 μ-loop b list to₀ n i₀ to i = n - i
 
-loop-holds : tie.Need-loop-holds Inv-loop μ-loop
-loop-holds c = search needs
-
-f64-of-requires : tie.Need-f64-of-requires Inv-loop μ-loop
-f64-of-requires c κs = search needs
-
-mul-to : tie.Need-mul-to Inv-loop μ-loop
-mul-to c = search needs
-
-slice-write-to : tie.Need-slice-write-to Inv-loop μ-loop
-slice-write-to c = search needs
-
-add-i : tie.Need-add-i Inv-loop μ-loop
-add-i c = search needs
-
-loop-less : tie.Need-loop-less Inv-loop μ-loop
-loop-less c = search needs
-
-loop-again : tie.Need-loop-again Inv-loop μ-loop
-loop-again c = search needs
-
-same-length : tie.Need-same-length Inv-loop μ-loop
-same-length c = search needs
-
-returns : tie.Need-returns Inv-loop μ-loop
-returns c = search needs
-
 pub read-f64-spec : {M : Type 1} → statement M
 read-f64-spec =
     tie.close
     (tie.spec
     Inv-loop
     μ-loop
-    loop-holds
-    f64-of-requires
-    mul-to
-    slice-write-to
-    add-i
-    loop-less
-    loop-again
-    same-length
-    returns)
+    (λ c. search needs)
+    (λ c κs. search needs)
+    (λ c. search needs)
+    (λ c. search needs)
+    (λ c. search needs)
+    (λ c. search needs)
+    (λ c. search needs)
+    (λ c. search needs)
+    (λ c. search needs))

@@ -5,27 +5,15 @@ use lib.Seq.{length-take-le}
 use Rattle.vectors.proofs.read_record.Statement.{statement}
 use Rattle.vectors.proofs.read_record.Tie as tie
 
-slice-relend-prefix-read-full : tie.Need-slice-relend-prefix-read-full
-slice-relend-prefix-read-full c = search needs
-
 slice-aggregate-read-full : tie.Need-slice-aggregate-read-full
 slice-aggregate-read-full c = sym (length-take-le _ _ (search needs))
-
-read-full-requires : tie.Need-read-full-requires
-read-full-requires c κs = search needs
-
-same-length : tie.Need-same-length
-same-length c = search needs
-
-returns : tie.Need-returns
-returns c = search needs
 
 pub read-record-spec : {M : Type 1} → statement M
 read-record-spec =
     tie.close
     (tie.spec
-    slice-relend-prefix-read-full
+    (λ c. search needs)
     slice-aggregate-read-full
-    read-full-requires
-    same-length
-    returns)
+    (λ c κs. search needs)
+    (λ c. search needs)
+    (λ c. search needs))

@@ -5,75 +5,30 @@ use lib.Seq.{length-take-le}
 use Rattle.vectors.proofs.replay_grey_u16.Statement.{statement}
 use Rattle.vectors.proofs.replay_grey_u16.Tie as tie
 
-list-after-requires : tie.Need-list-after-requires
-list-after-requires c κs = search needs
-
-f64-from-bits-requires : tie.Need-f64-from-bits-requires
-f64-from-bits-requires c κs = search needs
-
-work-length-requires : tie.Need-work-length-requires
-work-length-requires c κs = search needs
-
-rows-of-requires : tie.Need-rows-of-requires
-rows-of-requires c κs = search needs
-
-cols-of-requires : tie.Need-cols-of-requires
-cols-of-requires c κs = search needs
-
-strategy-of-requires : tie.Need-strategy-of-requires
-strategy-of-requires c κs = search needs
-
-array-borrow-prefix-out : tie.Need-array-borrow-prefix-out
-array-borrow-prefix-out c = search needs
-
 slice-aggregate-autoscale-db-image-to-u16 : tie.Need-slice-aggregate-autoscale-db-image-to-u16
 slice-aggregate-autoscale-db-image-to-u16 c = sym (length-take-le _ _ (search needs))
 
-array-borrow-prefix-work : tie.Need-array-borrow-prefix-work
-array-borrow-prefix-work c = search needs
-
 slice-aggregate-autoscale-db-image-to-u16-2 : tie.Need-slice-aggregate-autoscale-db-image-to-u16-2
 slice-aggregate-autoscale-db-image-to-u16-2 c = sym (length-take-le _ _ (search needs))
-
-autoscale-db-image-to-u16-requires : tie.Need-autoscale-db-image-to-u16-requires
-autoscale-db-image-to-u16-requires c κs = search needs
-
-is-reply-requires : tie.Need-is-reply-requires
-is-reply-requires c κs = search needs
-
-is-last-requires : tie.Need-is-last-requires
-is-last-requires c κs = search needs
-
-is-u16-requires : tie.Need-is-u16-requires
-is-u16-requires c κs = search needs
-
-is-work-requires : tie.Need-is-work-requires
-is-work-requires c κs = search needs
-
-returns : tie.Need-returns
-returns c = search needs
-
-returns-2 : tie.Need-returns-2
-returns-2 c = search needs
 
 pub replay-grey-u16-spec : {M : Type 1} → statement M
 replay-grey-u16-spec =
     tie.close
     (tie.spec
-    list-after-requires
-    f64-from-bits-requires
-    work-length-requires
-    rows-of-requires
-    cols-of-requires
-    strategy-of-requires
-    array-borrow-prefix-out
+    (λ c κs. search needs)
+    (λ c κs. search needs)
+    (λ c κs. search needs)
+    (λ c κs. search needs)
+    (λ c κs. search needs)
+    (λ c κs. search needs)
+    (λ c. search needs)
     slice-aggregate-autoscale-db-image-to-u16
-    array-borrow-prefix-work
+    (λ c. search needs)
     slice-aggregate-autoscale-db-image-to-u16-2
-    autoscale-db-image-to-u16-requires
-    is-reply-requires
-    is-last-requires
-    is-u16-requires
-    is-work-requires
-    returns
-    returns-2)
+    (λ c κs. search needs)
+    (λ c κs. search needs)
+    (λ c κs. search needs)
+    (λ c κs. search needs)
+    (λ c κs. search needs)
+    (λ c. search needs)
+    (λ c. search needs))

@@ -6,9 +6,6 @@ use borrow.Author.Needs.{needs}
 use Rattle.autoscale.proofs.band.reads_mean.Statement.{statement}
 use Rattle.autoscale.proofs.band.reads_mean.Tie as tie
 
-enum-told : tie.Need-enum-told
-enum-told c = search needs
-
 returns : tie.Need-returns
 unfolding readsMean
 returns c = sym (ap readsMean (c .enum-told .given .1))
@@ -18,4 +15,4 @@ unfolding readsMean
 returns-2 c = not-adaptive (c .before .args .strategy) (c .match .keys2)
 
 pub reads-mean-spec : {M : Type 1} → statement M
-reads-mean-spec = tie.close (tie.spec enum-told returns returns-2)
+reads-mean-spec = tie.close (tie.spec (λ c. search needs) returns returns-2)

@@ -23,21 +23,12 @@ untamed Clahe h = refl
 untamed Tamed h = absurd (miss (0 ∷ 1 ∷ 2 ∷ 3 ∷ 4 ∷ 6 ∷ []) 5 tt h)
 untamed Default h = refl
 
-enum-told : tie.Need-enum-told
-enum-told c = search needs
-
-tamed-clip-requires : tie.Need-tamed-clip-requires
-tamed-clip-requires c κs = search needs
-
 returns : tie.Need-returns
 unfolding isTamed
 returns c = rw (c .before .enum-told .given .1) (c .tamed-clip .ensures)
-
-choose-clip-requires : tie.Need-choose-clip-requires
-choose-clip-requires c κs = search needs
 
 returns-2 : tie.Need-returns-2
 returns-2 c = rw (untamed (c .before .before .args .strategy) (c .before .match .keys2)) (c .choose-clip .ensures)
 
 pub picture-clip-spec : {M : Type 1} → statement M
-picture-clip-spec = tie.close (tie.spec enum-told tamed-clip-requires returns choose-clip-requires returns-2)
+picture-clip-spec = tie.close (tie.spec (λ c. search needs) (λ c κs. search needs) returns (λ c κs. search needs) returns-2)

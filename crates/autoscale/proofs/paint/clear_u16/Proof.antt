@@ -17,18 +17,6 @@ abbrev μ-loop : tie.MeasureT-loop
 loop-holds : tie.Need-loop-holds Inv-loop μ-loop
 loop-holds c = (omega arith, refl, refl)
 
-mul-out : tie.Need-mul-out Inv-loop μ-loop
-mul-out c = omega arith
-
-slice-write-out : tie.Need-slice-write-out Inv-loop μ-loop
-slice-write-out c = omega arith
-
-add-i : tie.Need-add-i Inv-loop μ-loop
-add-i c = omega arith
-
-loop-less : tie.Need-loop-less Inv-loop μ-loop
-loop-less c = omega arith
-
 loop-again : tie.Need-loop-again Inv-loop μ-loop
 loop-again c =
     let l = c .before in
@@ -39,11 +27,8 @@ loop-again c =
       step (λ x. 0) 0 (now (l .before .args .out)) o i 0 (omega arith) (l .loop .inv .1) refl (l .loop .inv .2),
     )
 
-same-length : tie.Need-same-length Inv-loop μ-loop
-same-length c = omega arith
-
 returns : tie.Need-returns Inv-loop μ-loop
 returns c = finish (λ x. 0) 0 (now (c .before .before .args .out)) (c .before .loop .out) (c .before .loop .i) (c .before .loop .inv) (c .loop-test .left)
 
 pub clear-u16-spec : {M : Type 1} → statement M
-clear-u16-spec = tie.close (tie.spec Inv-loop μ-loop loop-holds mul-out slice-write-out add-i loop-less loop-again same-length returns)
+clear-u16-spec = tie.close (tie.spec Inv-loop μ-loop loop-holds (λ c. omega arith) (λ c. omega arith) (λ c. omega arith) (λ c. omega arith) loop-again (λ c. omega arith) returns)

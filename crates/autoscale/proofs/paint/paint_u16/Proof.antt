@@ -27,33 +27,6 @@ abbrev μ-loop : tie.MeasureT-loop
 loop-holds : tie.Need-loop-holds Inv-loop μ-loop
 loop-holds c = (omega arith, refl, refl)
 
-mul-value-u16 : tie.Need-mul-value-u16 Inv-loop μ-loop
-mul-value-u16 c = omega arith
-
-shared-slice-read-value-u16 : tie.Need-shared-slice-read-value-u16 Inv-loop μ-loop
-shared-slice-read-value-u16 c = omega arith
-
-value-u16-requires : tie.Need-value-u16-requires Inv-loop μ-loop
-value-u16-requires c κs = search needs
-
-shared-slice-read-masked-u16 : tie.Need-shared-slice-read-masked-u16 Inv-loop μ-loop
-shared-slice-read-masked-u16 c = omega arith
-
-masked-u16-requires : tie.Need-masked-u16-requires Inv-loop μ-loop
-masked-u16-requires c κs = search needs
-
-mul-out : tie.Need-mul-out Inv-loop μ-loop
-mul-out c = omega arith
-
-slice-write-out : tie.Need-slice-write-out Inv-loop μ-loop
-slice-write-out c = omega arith
-
-add-i : tie.Need-add-i Inv-loop μ-loop
-add-i c = omega arith
-
-loop-less : tie.Need-loop-less Inv-loop μ-loop
-loop-less c = omega arith
-
 loop-again : tie.Need-loop-again Inv-loop μ-loop
 loop-again c =
     let u = c .before .before in
@@ -67,11 +40,8 @@ loop-again c =
     let e = pixels-length (now (a .valid-mask)) (now (a .db)) (omega arith) in (
       omega arith,
       length-set o i x ∙ l .loop .inv .1,
-      step g off (pixels (now (a .valid-mask)) (now (a .db))) o i x (omega arith) (omega arith) (c .masked-u16 .ensures ∙ ap (λ (y : ℕ). cond (eqb k 0) 0 y) (u .value-u16 .ensures) ∙ paint-pixel full16 (a .low) (a .high) (a .range) k (getD (now (a .db)) i nan) ∙ ap g (pixels-at (now (a .valid-mask)) (now (a .db)) i (omega arith) (omega arith))) (l .loop .inv .2),
+      step g off (pixels (now (a .valid-mask)) (now (a .db))) o i x (omega arith) (omega arith) (c .masked-u16 .ensures ∙ ap (λ (y : ℕ). cond (eqb k 0) 0 y) (u .value-of-u16 .ensures) ∙ paint-pixel full16 (a .low) (a .high) (a .range) k (getD (now (a .db)) i nan) ∙ ap g (pixels-at (now (a .valid-mask)) (now (a .db)) i (omega arith) (omega arith))) (l .loop .inv .2),
     )
-
-same-length : tie.Need-same-length Inv-loop μ-loop
-same-length c = omega arith
 
 returns : tie.Need-returns Inv-loop μ-loop
 returns c =
@@ -81,4 +51,4 @@ returns c =
     finish (paint full16 (a .low) (a .high) (a .range)) off (pixels (now (a .valid-mask)) (now (a .db))) (l .loop .out) (l .loop .i) (omega arith, omega arith, l .loop .inv .2) (c .loop-test .left)
 
 pub paint-u16-spec : {M : Type 1} → statement M
-paint-u16-spec = tie.close (tie.spec Inv-loop μ-loop loop-holds mul-value-u16 shared-slice-read-value-u16 value-u16-requires shared-slice-read-masked-u16 masked-u16-requires mul-out slice-write-out add-i loop-less loop-again same-length returns)
+paint-u16-spec = tie.close (tie.spec Inv-loop μ-loop loop-holds (λ c. omega arith) (λ c. omega arith) (λ c κs. search needs) (λ c. omega arith) (λ c κs. search needs) (λ c. omega arith) (λ c. omega arith) (λ c. omega arith) (λ c. omega arith) loop-again (λ c. omega arith) returns)

@@ -31,42 +31,6 @@ loop-holds : tie.Need-loop-holds Inv-loop μ-loop
 unfolding lowest highest
 loop-holds c = (omega arith, refl, refl, refl, refl)
 
-mul-value-u8 : tie.Need-mul-value-u8 Inv-loop μ-loop
-mul-value-u8 c = omega arith
-
-shared-slice-read-value-u8 : tie.Need-shared-slice-read-value-u8 Inv-loop μ-loop
-shared-slice-read-value-u8 c = omega arith
-
-value-u8-requires : tie.Need-value-u8-requires Inv-loop μ-loop
-value-u8-requires c κs = search needs
-
-shared-slice-read-masked-u8 : tie.Need-shared-slice-read-masked-u8 Inv-loop μ-loop
-shared-slice-read-masked-u8 c = omega arith
-
-masked-u8-requires : tie.Need-masked-u8-requires Inv-loop μ-loop
-masked-u8-requires c κs = search needs
-
-slice-write-out : tie.Need-slice-write-out Inv-loop μ-loop
-slice-write-out c = omega arith
-
-cast-min-u16 : tie.Need-cast-min-u16 Inv-loop μ-loop
-cast-min-u16 c = search needs
-
-min-u16-requires : tie.Need-min-u16-requires Inv-loop μ-loop
-min-u16-requires c κs = search needs
-
-cast-max-u16 : tie.Need-cast-max-u16 Inv-loop μ-loop
-cast-max-u16 c = search needs
-
-max-u16-requires : tie.Need-max-u16-requires Inv-loop μ-loop
-max-u16-requires c κs = search needs
-
-add-i : tie.Need-add-i Inv-loop μ-loop
-add-i c = omega arith
-
-loop-less : tie.Need-loop-less Inv-loop μ-loop
-loop-less c = omega arith
-
 loop-again : tie.Need-loop-again Inv-loop μ-loop
 loop-again c =
     let p = c .before .before in
@@ -82,13 +46,10 @@ loop-again c =
     let e = pixels-length (now (a .valid-mask)) (now (a .db)) (omega arith) in (
       omega arith,
       length-set o i x ∙ l .loop .inv .1,
-      step g off px o i x (omega arith) (omega arith) (p .masked-u8 .ensures ∙ ap (λ (y : ℕ). cond (eqb k 0) 0 y) (u .value-u8 .ensures) ∙ paint-pixel full8 (a .low) (a .high) (a .range) k (getD (now (a .db)) i nan) ∙ ap g (pixels-at (now (a .valid-mask)) (now (a .db)) i (omega arith) (omega arith))) (l .loop .inv .2),
+      step g off px o i x (omega arith) (omega arith) (p .masked-u8 .ensures ∙ ap (λ (y : ℕ). cond (eqb k 0) 0 y) (u .value-of-u8 .ensures) ∙ paint-pixel full8 (a .low) (a .high) (a .range) k (getD (now (a .db)) i nan) ∙ ap g (pixels-at (now (a .valid-mask)) (now (a .db)) i (omega arith) (omega arith))) (l .loop .inv .2),
       c .before .min-u16 .ensures ∙ lowest-stored 65535 (l .loop .lo) x o i (omega arith) (l .loop .inv .3),
       c .max-u16 .ensures ∙ highest-stored 0 (l .loop .hi) x o i (omega arith) (l .loop .inv .4),
     )
-
-same-length : tie.Need-same-length Inv-loop μ-loop
-same-length c = omega arith
 
 returns : tie.Need-returns Inv-loop μ-loop
 returns c =
@@ -102,4 +63,4 @@ returns c =
     )
 
 pub paint-u8-spec : {M : Type 1} → statement M
-paint-u8-spec = tie.close (tie.spec Inv-loop μ-loop loop-holds mul-value-u8 shared-slice-read-value-u8 value-u8-requires shared-slice-read-masked-u8 masked-u8-requires slice-write-out cast-min-u16 min-u16-requires cast-max-u16 max-u16-requires add-i loop-less loop-again same-length returns)
+paint-u8-spec = tie.close (tie.spec Inv-loop μ-loop loop-holds (λ c. omega arith) (λ c. omega arith) (λ c κs. search needs) (λ c. omega arith) (λ c κs. search needs) (λ c. omega arith) (λ c. search needs) (λ c κs. search needs) (λ c. search needs) (λ c κs. search needs) (λ c. omega arith) (λ c. omega arith) loop-again (λ c. omega arith) returns)

@@ -7,7 +7,7 @@ use borrow.Author.Needs.{needs}
 use lib.ListN.{getD}
 use lib.Ieee.{Float, binary64, sub, mul, div, toUnsigned}
 use Rattle.spec.specs.Clahe.{levels64, clipped, excess, shared, oneByOne, clipAt}
-use Rattle.spec.specs.Floats.{zero64, rounded}
+use Rattle.spec.specs.Floats.{zero64, roundAsU64}
 use Rattle.spec.specs.Lists.{sumOf}
 use Rattle.clahe.proofs.Bounds.{each-most, excess-bounds, share-fits}
 use Rattle.clahe.proofs.Shares.{shared-from}
@@ -23,21 +23,6 @@ each-fits c =
     let e : c .each-of .result ≡ toUnsigned 64 (div binary64 (excess (s .args .limit) zero64 hs) levels64) =
     c .each-of .ensures ∙ ap (λ (o : Float). toUnsigned 64 (div binary64 o levels64)) (x .excess .ensures) in
     omega (arith, e, each-most (sumOf hs) (excess (s .args .limit) zero64 hs) (omega arith) (excess-bounds (s .args .limit) (s .pre .2) hs (omega arith) .1))
-
-excess-requires : tie.Need-excess-requires
-excess-requires c κs = search needs
-
-each-of-requires : tie.Need-each-of-requires
-each-of-requires c κs = search needs
-
-nearest-u64-to-f64-requires : tie.Need-nearest-u64-to-f64-requires
-nearest-u64-to-f64-requires c κs = search needs
-
-rest-of-requires : tie.Need-rest-of-requires
-rest-of-requires c κs = search needs
-
-clip-bins-requires : tie.Need-clip-bins-requires
-clip-bins-requires c κs = search needs
 
 cast-share : tie.Need-cast-share
 cast-share c =
@@ -56,9 +41,6 @@ share-requires c κs =
           (share-fits (s .args .limit) hs (e .each-of .result) (s .pre .1) (each-fits e) k),
     )
 
-same-length : tie.Need-same-length
-same-length c = search needs
-
 returns : tie.Need-returns
 unfolding clipAt
 returns c =
@@ -75,19 +57,19 @@ returns c =
     let rest = q .rest-of .result in
     h .share .ensures
     ∙ ap (λ (l : List ℕ). oneByOne rest (map (λ m. m + each) l)) (b .clip-bins .ensures)
-    ∙ shared-from over (map (clipped (s .args .limit)) hs) each rest (e .each-of .ensures) (q .rest-of .ensures ∙ ap (λ (y : Float). rounded (sub binary64 over (mul binary64 y levels64))) (n .nearest-u64-to-f64 .ensures))
+    ∙ shared-from over (map (clipped (s .args .limit)) hs) each rest (e .each-of .ensures) (q .rest-of .ensures ∙ ap (λ (y : Float). roundAsU64 (sub binary64 over (mul binary64 y levels64))) (n .nearest-u64-to-f64 .ensures))
     ∙ ap (λ (o : Float). shared o (map (clipped (s .args .limit)) hs)) (x .excess .ensures)
 
 pub clip-spec : {M : Type 1} → statement M
 clip-spec =
     tie.close
     (tie.spec
-    excess-requires
-    each-of-requires
-    nearest-u64-to-f64-requires
-    rest-of-requires
-    clip-bins-requires
+    (λ c κs. search needs)
+    (λ c κs. search needs)
+    (λ c κs. search needs)
+    (λ c κs. search needs)
+    (λ c κs. search needs)
     cast-share
     share-requires
-    same-length
+    (λ c. search needs)
     returns)

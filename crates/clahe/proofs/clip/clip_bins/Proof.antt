@@ -21,27 +21,6 @@ loop-holds : tie.Need-loop-holds Inv-loop μ-loop
 loop-holds c =
     (omega arith, omega arith, turned-none (λ k h. clipped (c .before .args .limit) h) (c .before .args .hist .now))
 
-mul-h : tie.Need-mul-h Inv-loop μ-loop
-mul-h c = search needs
-
-slice-read-h : tie.Need-slice-read-h Inv-loop μ-loop
-slice-read-h c = search needs
-
-clipped-requires : tie.Need-clipped-requires Inv-loop μ-loop
-clipped-requires c κs = search needs
-
-mul-hist : tie.Need-mul-hist Inv-loop μ-loop
-mul-hist c = search needs
-
-slice-write-hist : tie.Need-slice-write-hist Inv-loop μ-loop
-slice-write-hist c = search needs
-
-add-b : tie.Need-add-b Inv-loop μ-loop
-add-b c = search needs
-
-loop-less : tie.Need-loop-less Inv-loop μ-loop
-loop-less c = search needs
-
 loop-again : tie.Need-loop-again Inv-loop μ-loop
 loop-again c =
     let l = c .before .before .before in
@@ -50,9 +29,6 @@ loop-again c =
       simp length-set (omega arith),
       turned-next (λ k h. clipped (a .limit) h) (a .hist .now) (l .loop .b) (l .loop .hist) _ (l .loop .inv .2) (omega arith) (c .clipped .ensures),
     )
-
-same-length : tie.Need-same-length Inv-loop μ-loop
-same-length c = search needs
 
 returns : tie.Need-returns Inv-loop μ-loop
 returns c =
@@ -68,13 +44,13 @@ clip-bins-spec =
     Inv-loop
     μ-loop
     loop-holds
-    mul-h
-    slice-read-h
-    clipped-requires
-    mul-hist
-    slice-write-hist
-    add-b
-    loop-less
+    (λ c. search needs)
+    (λ c. search needs)
+    (λ c κs. search needs)
+    (λ c. search needs)
+    (λ c. search needs)
+    (λ c. search needs)
+    (λ c. search needs)
     loop-again
-    same-length
+    (λ c. search needs)
     returns)

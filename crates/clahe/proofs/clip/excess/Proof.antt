@@ -20,21 +20,6 @@ abbrev μ-loop : tie.MeasureT-loop
 loop-holds : tie.Need-loop-holds Inv-loop μ-loop
 loop-holds c = (omega arith, refl)
 
-mul-with-excess : tie.Need-mul-with-excess Inv-loop μ-loop
-mul-with-excess c = search needs
-
-shared-slice-read-with-excess : tie.Need-shared-slice-read-with-excess Inv-loop μ-loop
-shared-slice-read-with-excess c = search needs
-
-with-excess-requires : tie.Need-with-excess-requires Inv-loop μ-loop
-with-excess-requires c κs = search needs
-
-add-b : tie.Need-add-b Inv-loop μ-loop
-add-b c = search needs
-
-loop-less : tie.Need-loop-less Inv-loop μ-loop
-loop-less c = search needs
-
 loop-again : tie.Need-loop-again Inv-loop μ-loop
 loop-again c =
     let l = c .before .before .before in
@@ -56,10 +41,10 @@ excess-spec =
     Inv-loop
     μ-loop
     loop-holds
-    mul-with-excess
-    shared-slice-read-with-excess
-    with-excess-requires
-    add-b
-    loop-less
+    (λ c. search needs)
+    (λ c. search needs)
+    (λ c κs. search needs)
+    (λ c. search needs)
+    (λ c. search needs)
     loop-again
     returns)

@@ -5,12 +5,6 @@ use Rattle.clahe.proofs.Whole.{cut}
 use Rattle.clahe.proofs.clip.f64_as_u32.Tie as tie
 use Rattle.clahe.proofs.clip.f64_as_u32.Statement.{statement}
 
-f64-as-u64-requires : tie.Need-f64-as-u64-requires
-f64-as-u64-requires c κs = search needs
-
-cast-result : tie.Need-cast-result
-cast-result c = search needs
-
 returns : tie.Need-returns
 returns c = omega (arith, cut (c .before .before .args .x), c .before .f64-as-u64 .ensures)
 
@@ -18,4 +12,4 @@ returns-2 : tie.Need-returns-2
 returns-2 c = omega (arith, cut (c .before .before .args .x), c .before .f64-as-u64 .ensures)
 
 pub f64-as-u32-spec : {M : Type 1} → statement M
-f64-as-u32-spec = tie.close (tie.spec f64-as-u64-requires cast-result returns returns-2)
+f64-as-u32-spec = tie.close (tie.spec (λ c κs. search needs) (λ c. search needs) returns returns-2)

@@ -25,29 +25,11 @@ loop-holds c =
     let a = c .before .args in
     (omega arith, omega arith, turned-none (λ k h. h + a .each + cond (ltb k (a .rest)) 1 0) (a .hist .now))
 
-mul-h : tie.Need-mul-h Inv-loop μ-loop
-mul-h c = search needs
-
-slice-read-h : tie.Need-slice-read-h Inv-loop μ-loop
-slice-read-h c = search needs
-
 with-share-requires : tie.Need-with-share-requires Inv-loop μ-loop
 with-share-requires c κs =
     let l = c .before .before in
     let s = l .before .before in
     omega (arith, s .pre .1 (l .loop .b), l .loop .inv .2 .same (l .loop .b) (omega arith))
-
-mul-hist : tie.Need-mul-hist Inv-loop μ-loop
-mul-hist c = search needs
-
-slice-write-hist : tie.Need-slice-write-hist Inv-loop μ-loop
-slice-write-hist c = search needs
-
-add-b : tie.Need-add-b Inv-loop μ-loop
-add-b c = search needs
-
-loop-less : tie.Need-loop-less Inv-loop μ-loop
-loop-less c = search needs
 
 loop-again : tie.Need-loop-again Inv-loop μ-loop
 loop-again c =
@@ -57,9 +39,6 @@ loop-again c =
       simp length-set (omega arith),
       turned-next (λ k h. h + a .each + cond (ltb k (a .rest)) 1 0) (a .hist .now) (l .loop .b) (l .loop .hist) _ (l .loop .inv .2) (omega arith) (c .with-share .ensures),
     )
-
-same-length : tie.Need-same-length Inv-loop μ-loop
-same-length c = search needs
 
 returns : tie.Need-returns Inv-loop μ-loop
 returns c =
@@ -79,13 +58,13 @@ share-spec =
     Inv-loop
     μ-loop
     loop-holds
-    mul-h
-    slice-read-h
+    (λ c. search needs)
+    (λ c. search needs)
     with-share-requires
-    mul-hist
-    slice-write-hist
-    add-b
-    loop-less
+    (λ c. search needs)
+    (λ c. search needs)
+    (λ c. search needs)
+    (λ c. search needs)
     loop-again
-    same-length
+    (λ c. search needs)
     returns)

@@ -9,12 +9,9 @@ use Rattle.clahe.proofs.clip.threshold.Tie as tie
 int-to-float-max-f64 : tie.Need-int-to-float-max-f64
 int-to-float-max-f64 c = in-float (c .before .args .area) (omega arith)
 
-max-f64-requires : tie.Need-max-f64-requires
-max-f64-requires c κs = search needs
-
 returns : tie.Need-returns
 unfolding threshold
 returns c = c .max-f64 .ensures
 
 pub threshold-spec : {M : Type 1} → statement M
-threshold-spec = tie.close (tie.spec int-to-float-max-f64 max-f64-requires returns)
+threshold-spec = tie.close (tie.spec int-to-float-max-f64 (λ c κs. search needs) returns)

@@ -5,12 +5,6 @@ use lib.Ieee.{binary64, add}
 use Rattle.clahe.proofs.clip.with_excess.Tie as tie
 use Rattle.clahe.proofs.clip.with_excess.Statement.{statement}
 
-int-to-float-size : tie.Need-int-to-float-size
-int-to-float-size c = search needs
-
-above-requires : tie.Need-above-requires
-above-requires c κs = search needs
-
 returns : tie.Need-returns
 returns c = simp (c .before .if1 .taken) (ap (add binary64 (c .before .before .before .args .sum)) (c .above .ensures))
 
@@ -18,4 +12,4 @@ returns-2 : tie.Need-returns-2
 returns-2 c = simp (c .if1 .left)
 
 pub with-excess-spec : {M : Type 1} → statement M
-with-excess-spec = tie.close (tie.spec int-to-float-size above-requires returns returns-2)
+with-excess-spec = tie.close (tie.spec (λ c. search needs) (λ c κs. search needs) returns returns-2)

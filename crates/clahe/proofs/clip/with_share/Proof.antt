@@ -5,15 +5,6 @@ use borrow.Author.Needs.{needs}
 use Rattle.clahe.proofs.clip.with_share.Tie as tie
 use Rattle.clahe.proofs.clip.with_share.Statement.{statement}
 
-add-result : tie.Need-add-result
-add-result c = search needs
-
-add-result-2 : tie.Need-add-result-2
-add-result-2 c = search needs
-
-add-result-3 : tie.Need-add-result-3
-add-result-3 c = search needs
-
 returns : tie.Need-returns
 returns c = simp (lt-ltb _ _ (c .if1 .taken))
 
@@ -21,4 +12,4 @@ returns-2 : tie.Need-returns-2
 returns-2 c = simp (le-ltb _ _ (c .if1 .left)) (omega arith)
 
 pub with-share-spec : {M : Type 1} → statement M
-with-share-spec = tie.close (tie.spec add-result add-result-2 add-result-3 returns returns-2)
+with-share-spec = tie.close (tie.spec (λ c. search needs) (λ c. search needs) (λ c. search needs) returns returns-2)

@@ -4,7 +4,7 @@ use Prim.Native.Nat.{ℕ, _-_, _≤_, _<_}
 use native.Mathlib.Omega.{arith}
 use borrow.Author.Needs.{needs}
 use lib.ListN.{length, length-set}
-use Rattle.spec.specs.Clahe.{positionOf}
+use Rattle.spec.specs.Clahe.{tilePosition}
 use Rattle.clahe.specs.Paint.{columnAt}
 use Rattle.clahe.proofs.Positioned.{among-of, column-next}
 use Rattle.clahe.proofs.columns.column_positions.Tie as tie
@@ -13,22 +13,13 @@ use Rattle.clahe.proofs.columns.column_positions.Statement.{statement}
 abbrev Inv-loop : tie.InvT-loop
 Inv-loop side cols positions₀ firsts₀ seconds₀ weights₀ c₀ positions firsts seconds weights c =
     (c ≤ cols) × (length positions ≡ 4096) × (length firsts ≡ 4096) × (length seconds ≡ 4096) × (length weights ≡ 4096)
-    × ((j : ℕ) → j < c → columnAt positions firsts seconds weights j ≡ positionOf side j)
+    × ((j : ℕ) → j < c → columnAt positions firsts seconds weights j ≡ tilePosition side j)
 
 abbrev μ-loop : tie.MeasureT-loop
 μ-loop side cols positions₀ firsts₀ seconds₀ weights₀ c₀ positions firsts seconds weights c = cols - c
 
 loop-holds : tie.Need-loop-holds Inv-loop μ-loop
 loop-holds c = (omega arith, omega arith, omega arith, omega arith, omega arith, λ j h. absurd (omega arith))
-
-tile-position-requires : tie.Need-tile-position-requires Inv-loop μ-loop
-tile-position-requires c κs = search needs
-
-mul-positions : tie.Need-mul-positions Inv-loop μ-loop
-mul-positions c = search needs
-
-slice-write-positions : tie.Need-slice-write-positions Inv-loop μ-loop
-slice-write-positions c = search needs
 
 cast-firsts : tie.Need-cast-firsts Inv-loop μ-loop
 cast-firsts c =
@@ -37,36 +28,12 @@ cast-firsts c =
     let a = l .before .before .before .before .before .args in
     omega (arith, among-of (a .side) (l .loop .c) (p .tile-position .result) (p .tile-position .ensures))
 
-mul-firsts : tie.Need-mul-firsts Inv-loop μ-loop
-mul-firsts c = search needs
-
-slice-write-firsts : tie.Need-slice-write-firsts Inv-loop μ-loop
-slice-write-firsts c = search needs
-
 cast-seconds : tie.Need-cast-seconds Inv-loop μ-loop
 cast-seconds c =
     let p = c .before .before in
     let l = p .before .before in
     let a = l .before .before .before .before .before .args in
     omega (arith, among-of (a .side) (l .loop .c) (p .tile-position .result) (p .tile-position .ensures))
-
-mul-seconds : tie.Need-mul-seconds Inv-loop μ-loop
-mul-seconds c = search needs
-
-slice-write-seconds : tie.Need-slice-write-seconds Inv-loop μ-loop
-slice-write-seconds c = search needs
-
-mul-weights : tie.Need-mul-weights Inv-loop μ-loop
-mul-weights c = search needs
-
-slice-write-weights : tie.Need-slice-write-weights Inv-loop μ-loop
-slice-write-weights c = search needs
-
-add-c : tie.Need-add-c Inv-loop μ-loop
-add-c c = search needs
-
-loop-less : tie.Need-loop-less Inv-loop μ-loop
-loop-less c = search needs
 
 loop-again : tie.Need-loop-again Inv-loop μ-loop
 loop-again c =
@@ -82,18 +49,6 @@ loop-again c =
           (omega arith) (omega arith) (omega arith) (omega arith) (l .loop .inv .5),
     )
 
-same-length : tie.Need-same-length Inv-loop μ-loop
-same-length c = search needs
-
-same-length-2 : tie.Need-same-length-2 Inv-loop μ-loop
-same-length-2 c = search needs
-
-same-length-3 : tie.Need-same-length-3 Inv-loop μ-loop
-same-length-3 c = search needs
-
-same-length-4 : tie.Need-same-length-4 Inv-loop μ-loop
-same-length-4 c = search needs
-
 returns : tie.Need-returns Inv-loop μ-loop
 returns c =
     let l = c .before in
@@ -106,22 +61,22 @@ column-positions-spec =
     Inv-loop
     μ-loop
     loop-holds
-    tile-position-requires
-    mul-positions
-    slice-write-positions
+    (λ c κs. search needs)
+    (λ c. search needs)
+    (λ c. search needs)
     cast-firsts
-    mul-firsts
-    slice-write-firsts
+    (λ c. search needs)
+    (λ c. search needs)
     cast-seconds
-    mul-seconds
-    slice-write-seconds
-    mul-weights
-    slice-write-weights
-    add-c
-    loop-less
+    (λ c. search needs)
+    (λ c. search needs)
+    (λ c. search needs)
+    (λ c. search needs)
+    (λ c. search needs)
+    (λ c. search needs)
     loop-again
-    same-length
-    same-length-2
-    same-length-3
-    same-length-4
+    (λ c. search needs)
+    (λ c. search needs)
+    (λ c. search needs)
+    (λ c. search needs)
     returns)

@@ -26,43 +26,10 @@ loop-holds c =
     let s = c .before .before .before in
     (omega arith, omega arith, λ k. omega (arith, s .pre .1 .1 k), refl)
 
-shared-slice-read-if1 : tie.Need-shared-slice-read-if1 Inv-loop μ-loop
-shared-slice-read-if1 c = search needs
-
-mul-normalised : tie.Need-mul-normalised Inv-loop μ-loop
-mul-normalised c = search needs
-
-shared-slice-read-normalised : tie.Need-shared-slice-read-normalised Inv-loop μ-loop
-shared-slice-read-normalised c = search needs
-
-normalised-requires : tie.Need-normalised-requires Inv-loop μ-loop
-normalised-requires c κs = search needs
-
-level-of-requires : tie.Need-level-of-requires Inv-loop μ-loop
-level-of-requires c κs = search needs
-
-mul-n : tie.Need-mul-n Inv-loop μ-loop
-mul-n c = search needs
-
-slice-read-n : tie.Need-slice-read-n Inv-loop μ-loop
-slice-read-n c = search needs
-
 add-hist : tie.Need-add-hist Inv-loop μ-loop
 add-hist c =
     let l = c .before .before .before .before .before .before .before in
     omega (arith, l .loop .inv .2 (c .before .level-of .result))
-
-mul-hist : tie.Need-mul-hist Inv-loop μ-loop
-mul-hist c = search needs
-
-slice-write-hist : tie.Need-slice-write-hist Inv-loop μ-loop
-slice-write-hist c = search needs
-
-add-i : tie.Need-add-i Inv-loop μ-loop
-add-i c = search needs
-
-loop-less : tie.Need-loop-less Inv-loop μ-loop
-loop-less c = search needs
 
 loop-again : tie.Need-loop-again Inv-loop μ-loop
 loop-again c =
@@ -89,9 +56,6 @@ loop-again c =
     ))
     (c .if1 .came)
 
-same-length : tie.Need-same-length Inv-loop μ-loop
-same-length c = search needs
-
 returns : tie.Need-returns Inv-loop μ-loop
 returns c =
     let l = c .before in
@@ -105,18 +69,18 @@ count-row-spec =
     Inv-loop
     μ-loop
     loop-holds
-    shared-slice-read-if1
-    mul-normalised
-    shared-slice-read-normalised
-    normalised-requires
-    level-of-requires
-    mul-n
-    slice-read-n
+    (λ c. search needs)
+    (λ c. search needs)
+    (λ c. search needs)
+    (λ c κs. search needs)
+    (λ c κs. search needs)
+    (λ c. search needs)
+    (λ c. search needs)
     add-hist
-    mul-hist
-    slice-write-hist
-    add-i
-    loop-less
+    (λ c. search needs)
+    (λ c. search needs)
+    (λ c. search needs)
+    (λ c. search needs)
     loop-again
-    same-length
+    (λ c. search needs)
     returns)

@@ -40,18 +40,6 @@ inside c =
       omega (arith, d .before .before .before .tile-start .ensures, tile-inside (a .rows) (a .ty) (c .before .loop .r) (omega (arith, d .before .before .tile-size .ensures)), s .pre .0 .0 .tall),
     )
 
-tile-start-requires : tie.Need-tile-start-requires Inv-loop μ-loop
-tile-start-requires c κs = search needs
-
-tile-size-requires : tie.Need-tile-size-requires Inv-loop μ-loop
-tile-size-requires c κs = search needs
-
-tile-start-requires-2 : tie.Need-tile-start-requires-2 Inv-loop μ-loop
-tile-start-requires-2 c κs = search needs
-
-tile-size-requires-2 : tie.Need-tile-size-requires-2 Inv-loop μ-loop
-tile-size-requires-2 c κs = search needs
-
 returns : tie.Need-returns Inv-loop μ-loop
 returns c =
     let d = c .before in
@@ -90,20 +78,8 @@ add-end c = omega (arith, inside c)
 mul-count-row : tie.Need-mul-count-row Inv-loop μ-loop
 mul-count-row c = omega (arith, inside c)
 
-sub-count-row : tie.Need-sub-count-row Inv-loop μ-loop
-sub-count-row c = search needs
-
-part-count-row-start : tie.Need-part-count-row-start Inv-loop μ-loop
-part-count-row-start c = search needs
-
 part-count-row-end : tie.Need-part-count-row-end Inv-loop μ-loop
 part-count-row-end c = let s = c .before .before .before .before .before .before .before .before .before .before in omega (arith, inside c, s .pre .0 .0 .db-length)
-
-sub-count-row-2 : tie.Need-sub-count-row-2 Inv-loop μ-loop
-sub-count-row-2 c = search needs
-
-part-count-row-start-2 : tie.Need-part-count-row-start-2 Inv-loop μ-loop
-part-count-row-start-2 c = search needs
 
 part-count-row-end-2 : tie.Need-part-count-row-end-2 Inv-loop μ-loop
 part-count-row-end-2 c = let s = c .before .before .before .before .before .before .before .before .before .before .before in omega (arith, inside (c .before), s .pre .0 .0 .marks-length)
@@ -117,12 +93,6 @@ count-row-requires c κs =
       (simp (length-take, length-drop) (omega (arith, s .pre .0 .0 .marks-length, s .pre .0 .0 .db-length)), simp (length-take, length-drop) (omega arith)),
       (omega arith, λ k. omega (arith, i .before .loop .inv .2 k)),
     )
-
-add-r : tie.Need-add-r Inv-loop μ-loop
-add-r c = search needs
-
-loop-less : tie.Need-loop-less Inv-loop μ-loop
-loop-less c = search needs
 
 loop-again : tie.Need-loop-again Inv-loop μ-loop
 loop-again c =
@@ -150,9 +120,6 @@ loop-again c =
       l .loop .inv .3 ∙ rest-next f top height (l .loop .hist) r (omega arith) ∙ ap (λ (h : List ℕ). Rest f top height h (r + 1)) (sym new),
     )
 
-same-length : tie.Need-same-length Inv-loop μ-loop
-same-length c = search needs
-
 returns-2 : tie.Need-returns-2 Inv-loop μ-loop
 returns-2 c =
     let l = c .before in
@@ -170,10 +137,10 @@ count-tile-spec =
     (tie.spec
     Inv-loop
     μ-loop
-    tile-start-requires
-    tile-size-requires
-    tile-start-requires-2
-    tile-size-requires-2
+    (λ c κs. search needs)
+    (λ c κs. search needs)
+    (λ c κs. search needs)
+    (λ c κs. search needs)
     returns
     loop-holds
     add-at
@@ -181,15 +148,15 @@ count-tile-spec =
     add-at-2
     add-end
     mul-count-row
-    sub-count-row
-    part-count-row-start
+    (λ c. search needs)
+    (λ c. search needs)
     part-count-row-end
-    sub-count-row-2
-    part-count-row-start-2
+    (λ c. search needs)
+    (λ c. search needs)
     part-count-row-end-2
     count-row-requires
-    add-r
-    loop-less
+    (λ c. search needs)
+    (λ c. search needs)
     loop-again
-    same-length
+    (λ c. search needs)
     returns-2)

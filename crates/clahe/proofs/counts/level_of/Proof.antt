@@ -3,14 +3,11 @@ use mathlib.Core.Path.{ap, _∙_, sym, subst}
 use borrow.Author.Needs.{needs}
 use lib.Dec.{T}
 use lib.Ieee.{Float, binary64, mul, le}
-use Rattle.spec.specs.Floats.{zero64, rounded}
+use Rattle.spec.specs.Floats.{zero64, roundAsU64}
 use Rattle.spec.specs.Value.{full8, full16}
 use Rattle.clahe.proofs.Scaled.{low8, high8-16, level-of}
 use Rattle.clahe.proofs.counts.level_of.Tie as tie
 use Rattle.clahe.proofs.counts.level_of.Statement.{statement}
-
-clamp-f64-requires : tie.Need-clamp-f64-requires
-clamp-f64-requires c κs = search needs
 
 round-small-requires : tie.Need-round-small-requires
 round-small-requires c κs =
@@ -18,12 +15,9 @@ round-small-requires c κs =
     let e = sym (c .clamp-f64 .ensures) in
     (subst (λ (x : Float). T (le zero64 (mul binary64 x full8))) e (low8 u), subst (λ (x : Float). T (le (mul binary64 x full8) full16)) e (high8-16 u))
 
-cast-result : tie.Need-cast-result
-cast-result c = search needs
-
 returns : tie.Need-returns
 returns c =
-    level-of (c .before .before .args .u) _ (c .round-small .ensures ∙ ap (λ (x : Float). rounded (mul binary64 x full8)) (c .before .clamp-f64 .ensures))
+    level-of (c .before .before .args .u) _ (c .round-small .ensures ∙ ap (λ (x : Float). roundAsU64 (mul binary64 x full8)) (c .before .clamp-f64 .ensures))
 
 pub level-of-spec : {M : Type 1} → statement M
-level-of-spec = tie.close (tie.spec clamp-f64-requires round-small-requires cast-result returns)
+level-of-spec = tie.close (tie.spec (λ c κs. search needs) round-small-requires (λ c. search needs) returns)

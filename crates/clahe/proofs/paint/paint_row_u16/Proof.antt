@@ -27,45 +27,12 @@ abbrev μ-loop : tie.MeasureT-loop
 loop-holds : tie.Need-loop-holds Inv-loop μ-loop
 loop-holds c = (omega arith, omega arith, λ k h. absurd (omega arith))
 
-shared-slice-read-if1 : tie.Need-shared-slice-read-if1 Inv-loop μ-loop
-shared-slice-read-if1 c = search needs
-
-mul-out : tie.Need-mul-out Inv-loop μ-loop
-mul-out c = search needs
-
-slice-write-out : tie.Need-slice-write-out Inv-loop μ-loop
-slice-write-out c = search needs
-
-column-requires : tie.Need-column-requires Inv-loop μ-loop
-column-requires c κs = search needs
-
-mul-normalised : tie.Need-mul-normalised Inv-loop μ-loop
-mul-normalised c = search needs
-
-shared-slice-read-normalised : tie.Need-shared-slice-read-normalised Inv-loop μ-loop
-shared-slice-read-normalised c = search needs
-
-normalised-requires : tie.Need-normalised-requires Inv-loop μ-loop
-normalised-requires c κs = search needs
-
 shade-u16-requires : tie.Need-shade-u16-requires Inv-loop μ-loop
 shade-u16-requires c κs =
     let k = c .before .before in
     let l = k .before .before .before .before in
     let s = l .before .before .before .before .before .before .before .before .before in
     (s .pre .1 .0 .0, s .pre .1 .0 .1, subst Among (sym (k .column .ensures)) (s .pre .1 .1 .1 (l .loop .c) (omega arith)))
-
-mul-out-2 : tie.Need-mul-out-2 Inv-loop μ-loop
-mul-out-2 c = search needs
-
-slice-write-out-2 : tie.Need-slice-write-out-2 Inv-loop μ-loop
-slice-write-out-2 c = search needs
-
-add-c : tie.Need-add-c Inv-loop μ-loop
-add-c c = search needs
-
-loop-less : tie.Need-loop-less Inv-loop μ-loop
-loop-less c = search needs
 
 loop-again : tie.Need-loop-again Inv-loop μ-loop
 loop-again c =
@@ -94,9 +61,6 @@ loop-again c =
     ))
     (c .if1 .came)
 
-same-length : tie.Need-same-length Inv-loop μ-loop
-same-length c = search needs
-
 returns : tie.Need-returns Inv-loop μ-loop
 unfolding rowShades
 returns c =
@@ -112,18 +76,18 @@ paint-row-u16-spec =
     Inv-loop
     μ-loop
     loop-holds
-    shared-slice-read-if1
-    mul-out
-    slice-write-out
-    column-requires
-    mul-normalised
-    shared-slice-read-normalised
-    normalised-requires
+    (λ c. search needs)
+    (λ c. search needs)
+    (λ c. search needs)
+    (λ c κs. search needs)
+    (λ c. search needs)
+    (λ c. search needs)
+    (λ c κs. search needs)
     shade-u16-requires
-    mul-out-2
-    slice-write-out-2
-    add-c
-    loop-less
+    (λ c. search needs)
+    (λ c. search needs)
+    (λ c. search needs)
+    (λ c. search needs)
     loop-again
-    same-length
+    (λ c. search needs)
     returns)

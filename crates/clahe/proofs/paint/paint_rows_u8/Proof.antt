@@ -5,7 +5,7 @@ use native.Mathlib.Nat.{mul-le-mul-right}
 use native.Mathlib.Omega.{arith}
 use borrow.Author.Needs.{needs}
 use lib.ListN.{length, getD, take, drop, length-take, length-drop}
-use Rattle.spec.specs.Clahe.{positionOf}
+use Rattle.spec.specs.Clahe.{tilePosition}
 use Rattle.spec.specs.Value.{full8}
 use Rattle.clahe.specs.Band.{band}
 use Rattle.clahe.specs.Paint.{rowShades, columnAt}
@@ -34,15 +34,6 @@ inside c =
       times-most (a .rows) (a .cols) 4096 4096 (s .pre .0 .0 .tall) (s .pre .0 .0 .wide),
     )
 
-tile-side-requires : tie.Need-tile-side-requires Inv-loop μ-loop
-tile-side-requires c κs = search needs
-
-loop-holds : tie.Need-loop-holds Inv-loop μ-loop
-loop-holds c = search needs
-
-tile-position-requires : tie.Need-tile-position-requires Inv-loop μ-loop
-tile-position-requires c κs = search needs
-
 mul-at : tie.Need-mul-at Inv-loop μ-loop
 mul-at c = omega (arith, inside c)
 
@@ -52,29 +43,11 @@ add-end c = omega (arith, inside c)
 mul-paint-row-u8 : tie.Need-mul-paint-row-u8 Inv-loop μ-loop
 mul-paint-row-u8 c = omega (arith, inside c)
 
-sub-paint-row-u8 : tie.Need-sub-paint-row-u8 Inv-loop μ-loop
-sub-paint-row-u8 c = search needs
-
-part-paint-row-u8-start : tie.Need-part-paint-row-u8-start Inv-loop μ-loop
-part-paint-row-u8-start c = search needs
-
 part-paint-row-u8-end : tie.Need-part-paint-row-u8-end Inv-loop μ-loop
 part-paint-row-u8-end c = let s = c .before .before .before .before .before .before .before .before .before .before .before .before in omega (arith, inside c, s .pre .0 .0 .db-length)
 
-sub-paint-row-u8-2 : tie.Need-sub-paint-row-u8-2 Inv-loop μ-loop
-sub-paint-row-u8-2 c = search needs
-
-part-paint-row-u8-start-2 : tie.Need-part-paint-row-u8-start-2 Inv-loop μ-loop
-part-paint-row-u8-start-2 c = search needs
-
 part-paint-row-u8-end-2 : tie.Need-part-paint-row-u8-end-2 Inv-loop μ-loop
 part-paint-row-u8-end-2 c = let s = c .before .before .before .before .before .before .before .before .before .before .before .before .before in omega (arith, inside (c .before), s .pre .0 .0 .marks-length)
-
-sub-paint-row-u8-3 : tie.Need-sub-paint-row-u8-3 Inv-loop μ-loop
-sub-paint-row-u8-3 c = search needs
-
-part-paint-row-u8-start-3 : tie.Need-part-paint-row-u8-start-3 Inv-loop μ-loop
-part-paint-row-u8-start-3 c = search needs
 
 part-paint-row-u8-end-3 : tie.Need-part-paint-row-u8-end-3 Inv-loop μ-loop
 part-paint-row-u8-end-3 c = let p = c .before .before in omega (arith, inside p, p .before .before .loop .inv .1)
@@ -100,12 +73,6 @@ paint-row-u8-requires c κs =
       ),
     )
 
-add-r : tie.Need-add-r Inv-loop μ-loop
-add-r c = search needs
-
-loop-less : tie.Need-loop-less Inv-loop μ-loop
-loop-less c = search needs
-
 loop-again : tie.Need-loop-again Inv-loop μ-loop
 loop-again c =
     let m = c .before .before in
@@ -124,11 +91,8 @@ loop-again c =
       omega arith,
       omega (arith, c .before .out .given, l .loop .inv .1),
       row-put full8 (a .work .now) (a .rows) (a .cols) (a .low) (a .high) (a .range) ms ds (s .pre .0 .0) r y x (omega arith)
-          (p .tile-position .ensures ∙ ap (λ (n : ℕ). positionOf n r) (l .before .tile-side .ensures)) (s .pre .1 .at) (l .loop .out) _ _ (l .loop .inv .1) new (l .loop .inv .2),
+          (p .tile-position .ensures ∙ ap (λ (n : ℕ). tilePosition n r) (l .before .tile-side .ensures)) (s .pre .1 .at) (l .loop .out) _ _ (l .loop .inv .1) new (l .loop .inv .2),
     )
-
-same-length : tie.Need-same-length Inv-loop μ-loop
-same-length c = search needs
 
 returns : tie.Need-returns Inv-loop μ-loop
 returns c =
@@ -145,24 +109,24 @@ paint-rows-u8-spec =
     (tie.spec
     Inv-loop
     μ-loop
-    tile-side-requires
-    loop-holds
-    tile-position-requires
+    (λ c κs. search needs)
+    (λ c. search needs)
+    (λ c κs. search needs)
     mul-at
     add-end
     mul-paint-row-u8
-    sub-paint-row-u8
-    part-paint-row-u8-start
+    (λ c. search needs)
+    (λ c. search needs)
     part-paint-row-u8-end
-    sub-paint-row-u8-2
-    part-paint-row-u8-start-2
+    (λ c. search needs)
+    (λ c. search needs)
     part-paint-row-u8-end-2
-    sub-paint-row-u8-3
-    part-paint-row-u8-start-3
+    (λ c. search needs)
+    (λ c. search needs)
     part-paint-row-u8-end-3
     paint-row-u8-requires
-    add-r
-    loop-less
+    (λ c. search needs)
+    (λ c. search needs)
     loop-again
-    same-length
+    (λ c. search needs)
     returns)

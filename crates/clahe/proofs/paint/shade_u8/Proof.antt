@@ -11,15 +11,6 @@ use Rattle.clahe.proofs.Scaled.{low8, high8-16}
 use Rattle.clahe.proofs.paint.shade_u8.Tie as tie
 use Rattle.clahe.proofs.paint.shade_u8.Statement.{statement}
 
-level-of-requires : tie.Need-level-of-requires
-level-of-requires c κs = search needs
-
-sample-requires : tie.Need-sample-requires
-sample-requires c κs = search needs
-
-clamp-f64-requires : tie.Need-clamp-f64-requires
-clamp-f64-requires c κs = search needs
-
 trunc-small-requires : tie.Need-trunc-small-requires
 trunc-small-requires c κs =
     let e = sym (c .clamp-f64 .ensures) in
@@ -42,9 +33,9 @@ pub shade-u8-spec : {M : Type 1} → statement M
 shade-u8-spec =
     tie.close
     (tie.spec
-    level-of-requires
-    sample-requires
-    clamp-f64-requires
+    (λ c κs. search needs)
+    (λ c κs. search needs)
+    (λ c κs. search needs)
     trunc-small-requires
     cast-result
     returns)

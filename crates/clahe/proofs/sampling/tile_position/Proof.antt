@@ -15,15 +15,6 @@ int-to-float-position c = in-float (c .before .args .i) (omega arith)
 int-to-float-position-2 : tie.Need-int-to-float-position-2
 int-to-float-position-2 c = in-float (c .before .before .args .side) (omega arith)
 
-f64-as-u64-requires : tie.Need-f64-as-u64-requires
-f64-as-u64-requires c κs = search needs
-
-add-second : tie.Need-add-second
-add-second c = search needs
-
-nearest-u64-to-f64-requires : tie.Need-nearest-u64-to-f64-requires
-nearest-u64-to-f64-requires c κs = search needs
-
 returns : tie.Need-returns
 returns c =
     let w = c .before in
@@ -34,17 +25,14 @@ returns c =
     let n : w .before .if2 .second ≡ min (k + 1) 7 = ⊎-elim (λ w. omega arith) (λ w. omega arith) (w .before .if2 .came) in
     position-of (a .side) (a .i) k _ _ _ _ (j .before .f64-as-u64 .ensures) m n (w .nearest-u64-to-f64 .ensures) (c .past .ensures)
 
-past-requires : tie.Need-past-requires
-past-requires c κs = search needs
-
 pub tile-position-spec : {M : Type 1} → statement M
 tile-position-spec =
     tie.close
     (tie.spec
     int-to-float-position
     int-to-float-position-2
-    f64-as-u64-requires
-    add-second
-    nearest-u64-to-f64-requires
-    past-requires
+    (λ c κs. search needs)
+    (λ c. search needs)
+    (λ c κs. search needs)
+    (λ c κs. search needs)
     returns)

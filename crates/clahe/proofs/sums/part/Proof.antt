@@ -8,11 +8,5 @@ use Rattle.clahe.proofs.sums.part.Tie as tie
 int-to-float-clamp-f64 : tie.Need-int-to-float-clamp-f64
 int-to-float-clamp-f64 c = in-float (c .before .args .sum) (omega arith)
 
-clamp-f64-requires : tie.Need-clamp-f64-requires
-clamp-f64-requires c κs = search needs
-
-returns : tie.Need-returns
-returns c = search needs
-
 pub part-spec : {M : Type 1} → statement M
-part-spec = tie.close (tie.spec int-to-float-clamp-f64 clamp-f64-requires returns)
+part-spec = tie.close (tie.spec int-to-float-clamp-f64 (λ c κs. search needs) (λ c. search needs))

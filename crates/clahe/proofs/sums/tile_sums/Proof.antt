@@ -16,19 +16,10 @@ use Rattle.clahe.proofs.Tiling.{area-most, tile-sum-most, no-counts}
 use Rattle.clahe.proofs.sums.tile_sums.Statement.{statement}
 use Rattle.clahe.proofs.sums.tile_sums.Tie as tie
 
-slice-aggregate-count-tile : tie.Need-slice-aggregate-count-tile
-slice-aggregate-count-tile c = search needs
-
 count-tile-requires : tie.Need-count-tile-requires
 count-tile-requires c κs =
     let s = c .before .before .before .before in
     ((s .pre .0, omega arith, omega arith), (refl, no-counts 256))
-
-tile-size-requires : tie.Need-tile-size-requires
-tile-size-requires c κs = search needs
-
-tile-size-requires-2 : tie.Need-tile-size-requires-2
-tile-size-requires-2 c κs = search needs
 
 mul-threshold : tie.Need-mul-threshold
 mul-threshold c =
@@ -46,9 +37,6 @@ threshold-requires c κs =
     ap (λ (n : ℕ). n * c .tile-size2 .result) (c .before .tile-size .ensures) ∙ ap (λ (n : ℕ). tileSize (a .rows) (a .k / 8) * n) (c .tile-size2 .ensures) in
     omega (arith, e, area-most (a .rows) (a .cols) (a .k / 8) (a .k % 8) (s .pre .0 .tall) (s .pre .0 .wide))
 
-slice-aggregate-clip : tie.Need-slice-aggregate-clip
-slice-aggregate-clip c = search needs
-
 clip-requires : tie.Need-clip-requires
 clip-requires c κs =
     let t = c .before in
@@ -60,15 +48,6 @@ clip-requires c κs =
       subst (λ (h : List ℕ). sumOf h < 2 ^ 31) (sym (n .count-tile .ensures)) (omega (arith, tile-sum-most (a .rows) (a .cols) px (a .k / 8) (a .k % 8) (s .pre .0 .tall) (s .pre .0 .wide))),
       subst (λ (x : Float). T (le zero64 x)) (sym (t .threshold .ensures)) (threshold-low _),
     )
-
-slice-aggregate-write-sums : tie.Need-slice-aggregate-write-sums
-slice-aggregate-write-sums c = search needs
-
-write-sums-requires : tie.Need-write-sums-requires
-write-sums-requires c κs = search needs
-
-same-length : tie.Need-same-length
-same-length c = search needs
 
 returns : tie.Need-returns
 returns c =
@@ -89,15 +68,15 @@ pub tile-sums-spec : {M : Type 1} → statement M
 tile-sums-spec =
     tie.close
     (tie.spec
-    slice-aggregate-count-tile
+    (λ c. search needs)
     count-tile-requires
-    tile-size-requires
-    tile-size-requires-2
+    (λ c κs. search needs)
+    (λ c κs. search needs)
     mul-threshold
     threshold-requires
-    slice-aggregate-clip
+    (λ c. search needs)
     clip-requires
-    slice-aggregate-write-sums
-    write-sums-requires
-    same-length
+    (λ c. search needs)
+    (λ c κs. search needs)
+    (λ c. search needs)
     returns)

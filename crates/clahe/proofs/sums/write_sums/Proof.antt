@@ -6,7 +6,7 @@ use native.Mathlib.Omega.{arith}
 use borrow.Author.Needs.{needs}
 use lib.ListN.{length, getD, take, length-set}
 use lib.Ieee.{nan}
-use Rattle.spec.specs.Floats.{one64, ofCount, larger}
+use Rattle.spec.specs.Floats.{one64, ofCount, maxFloat}
 use Rattle.spec.specs.Clahe.{sumAt}
 use Rattle.spec.specs.Lists.{sumOf}
 use Rattle.clahe.proofs.Totals.{sum-take, sum-at}
@@ -23,24 +23,12 @@ Inv-loop hist sums₀ whole sum₀ b₀ sums sum b =
 abbrev μ-loop : tie.MeasureT-loop
 μ-loop hist sums₀ whole sum₀ b₀ sums sum b = 256 - b
 
-total-requires : tie.Need-total-requires Inv-loop μ-loop
-total-requires c κs = search needs
-
 int-to-float-max-f64 : tie.Need-int-to-float-max-f64 Inv-loop μ-loop
 int-to-float-max-f64 c = in-float (c .before .total .result) (omega arith)
-
-max-f64-requires : tie.Need-max-f64-requires Inv-loop μ-loop
-max-f64-requires c κs = search needs
 
 loop-holds : tie.Need-loop-holds Inv-loop μ-loop
 unfolding sumOf
 loop-holds c = (omega arith, omega arith, omega arith, refl, λ k h. absurd (omega arith))
-
-mul-sum : tie.Need-mul-sum Inv-loop μ-loop
-mul-sum c = search needs
-
-shared-slice-read-sum : tie.Need-shared-slice-read-sum Inv-loop μ-loop
-shared-slice-read-sum c = search needs
 
 cast-sum : tie.Need-cast-sum Inv-loop μ-loop
 cast-sum c = omega (arith, c .shared-slice-known2 .given (c .before .before .loop .b))
@@ -50,18 +38,6 @@ add-sum c = omega (arith, c .shared-slice-known2 .given (c .before .before .loop
 
 part-requires : tie.Need-part-requires Inv-loop μ-loop
 part-requires c κs = omega (arith, c .shared-slice-known2 .given (c .before .before .loop .b))
-
-mul-sums : tie.Need-mul-sums Inv-loop μ-loop
-mul-sums c = search needs
-
-slice-write-sums : tie.Need-slice-write-sums Inv-loop μ-loop
-slice-write-sums c = search needs
-
-add-b : tie.Need-add-b Inv-loop μ-loop
-add-b c = search needs
-
-loop-less : tie.Need-loop-less Inv-loop μ-loop
-loop-less c = search needs
 
 loop-again : tie.Need-loop-again Inv-loop μ-loop
 loop-again c =
@@ -76,11 +52,8 @@ loop-again c =
       rw (add-one) (sym next),
       kept-or-stored (λ k x. x ≡ sumAt hs k) nan (l .loop .sums) b _ (omega arith) (l .loop .inv .4)
           (sum-at hs b (l .loop .sum + getD hs b 0) _ _ (sym next)
-          (m .max-f64 .ensures ∙ ap (λ (n : ℕ). larger (ofCount n) one64) (m .before .before .total .ensures .0)) (c .part .ensures)),
+          (m .max-f64 .ensures ∙ ap (λ (n : ℕ). maxFloat (ofCount n) one64) (m .before .before .total .ensures .0)) (c .part .ensures)),
     )
-
-same-length : tie.Need-same-length Inv-loop μ-loop
-same-length c = search needs
 
 returns : tie.Need-returns Inv-loop μ-loop
 returns c =
@@ -94,19 +67,19 @@ write-sums-spec =
     (tie.spec
     Inv-loop
     μ-loop
-    total-requires
+    (λ c κs. search needs)
     int-to-float-max-f64
-    max-f64-requires
+    (λ c κs. search needs)
     loop-holds
-    mul-sum
-    shared-slice-read-sum
+    (λ c. search needs)
+    (λ c. search needs)
     cast-sum
     add-sum
     part-requires
-    mul-sums
-    slice-write-sums
-    add-b
-    loop-less
+    (λ c. search needs)
+    (λ c. search needs)
+    (λ c. search needs)
+    (λ c. search needs)
     loop-again
-    same-length
+    (λ c. search needs)
     returns)

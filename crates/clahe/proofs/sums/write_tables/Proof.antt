@@ -24,33 +24,6 @@ abbrev μ-loop : tie.MeasureT-loop
 loop-holds : tie.Need-loop-holds Inv-loop μ-loop
 loop-holds c = (omega arith, omega arith, λ j b h g. absurd (omega arith))
 
-mul-at : tie.Need-mul-at Inv-loop μ-loop
-mul-at c = search needs
-
-add-end : tie.Need-add-end Inv-loop μ-loop
-add-end c = search needs
-
-mul-tile-sums : tie.Need-mul-tile-sums Inv-loop μ-loop
-mul-tile-sums c = search needs
-
-sub-tile-sums : tie.Need-sub-tile-sums Inv-loop μ-loop
-sub-tile-sums c = search needs
-
-part-tile-sums-start : tie.Need-part-tile-sums-start Inv-loop μ-loop
-part-tile-sums-start c = search needs
-
-part-tile-sums-end : tie.Need-part-tile-sums-end Inv-loop μ-loop
-part-tile-sums-end c = search needs
-
-tile-sums-requires : tie.Need-tile-sums-requires Inv-loop μ-loop
-tile-sums-requires c κs = search needs
-
-add-k : tie.Need-add-k Inv-loop μ-loop
-add-k c = search needs
-
-loop-less : tie.Need-loop-less Inv-loop μ-loop
-loop-less c = search needs
-
 loop-again : tie.Need-loop-again Inv-loop μ-loop
 loop-again c =
     let m = c .before .before in
@@ -61,9 +34,6 @@ loop-again c =
       omega (arith, c .before .work .given),
       put-table (λ j b. sumAt (tileTable (a .rows) (a .cols) px j) b) (l .loop .work) _ _ (l .loop .k) (omega arith) (m .tile-sums .ensures) (l .loop .inv .2),
     )
-
-same-length : tie.Need-same-length Inv-loop μ-loop
-same-length c = search needs
 
 returns : tie.Need-returns Inv-loop μ-loop
 unfolding tileTables
@@ -80,15 +50,15 @@ write-tables-spec =
     Inv-loop
     μ-loop
     loop-holds
-    mul-at
-    add-end
-    mul-tile-sums
-    sub-tile-sums
-    part-tile-sums-start
-    part-tile-sums-end
-    tile-sums-requires
-    add-k
-    loop-less
+    (λ c. search needs)
+    (λ c. search needs)
+    (λ c. search needs)
+    (λ c. search needs)
+    (λ c. search needs)
+    (λ c. search needs)
+    (λ c κs. search needs)
+    (λ c. search needs)
+    (λ c. search needs)
     loop-again
-    same-length
+    (λ c. search needs)
     returns)

@@ -3,19 +3,13 @@ use mathlib.Core.Path.{ap}
 use Prim.Native.Nat.{ℕ, _*_}
 use borrow.Author.Needs.{needs}
 use lib.Dec.{ltb}
-use Rattle.spec.specs.Refusals.{badSide}
+use Rattle.spec.specs.Refusals.{sideRefused}
 use Rattle.clahe.proofs.tiles.side_refused.Tie as tie
 use Rattle.clahe.proofs.tiles.side_refused.Statement.{statement}
 
-tile-side-requires : tie.Need-tile-side-requires
-tile-side-requires c κs = search needs
-
-mul-result : tie.Need-mul-result
-mul-result c = search needs
-
 returns : tie.Need-returns
-unfolding badSide
+unfolding sideRefused
 returns c = ap (λ (m : ℕ). ltb (c .before .args .s) (7 * m)) (c .tile-side .ensures)
 
 pub side-refused-spec : {M : Type 1} → statement M
-side-refused-spec = tie.close (tie.spec tile-side-requires mul-result returns)
+side-refused-spec = tie.close (tie.spec (λ c κs. search needs) (λ c. search needs) returns)

@@ -6,21 +6,12 @@ use Rattle.clahe.proofs.Whole.{times-most, next-times}
 use Rattle.clahe.proofs.tiles.tile_size.Statement.{statement}
 use Rattle.clahe.proofs.tiles.tile_size.Tie as tie
 
-tile-start-requires : tie.Need-tile-start-requires
-tile-start-requires c κs = search needs
-
-tile-side-requires : tie.Need-tile-side-requires
-tile-side-requires c κs = search needs
-
 add-if1 : tie.Need-add-if1
 add-if1 c = let a = c .before .before .args in omega (arith, times-most (a .k) (tileSide (a .s)) 8 512 (omega arith) (omega arith))
 
 returns : tie.Need-returns
 unfolding tileSize
 returns c = let a = c .before .before .before .args in omega (arith, next-times (a .k) (tileSide (a .s)))
-
-sub-result : tie.Need-sub-result
-sub-result c = search needs
 
 returns-2 : tie.Need-returns-2
 unfolding tileSize
@@ -34,10 +25,10 @@ pub tile-size-spec : {M : Type 1} → statement M
 tile-size-spec =
     tie.close
     (tie.spec
-    tile-start-requires
-    tile-side-requires
+    (λ c κs. search needs)
+    (λ c κs. search needs)
     add-if1
     returns
-    sub-result
+    (λ c. search needs)
     returns-2
     returns-3)

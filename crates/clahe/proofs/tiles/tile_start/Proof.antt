@@ -7,9 +7,6 @@ use Rattle.clahe.proofs.Whole.{times-most}
 use Rattle.clahe.proofs.tiles.tile_start.Tie as tie
 use Rattle.clahe.proofs.tiles.tile_start.Statement.{statement}
 
-tile-side-requires : tie.Need-tile-side-requires
-tile-side-requires c κs = search needs
-
 mul-result : tie.Need-mul-result
 mul-result c = omega (arith, times-most (c .before .args .k) (c .tile-side .result) 8 512 (omega arith) (omega arith))
 
@@ -17,4 +14,4 @@ returns : tie.Need-returns
 returns c = ap (λ (m : ℕ). c .before .args .k * m) (c .tile-side .ensures)
 
 pub tile-start-spec : {M : Type 1} → statement M
-tile-start-spec = tie.close (tie.spec tile-side-requires mul-result returns)
+tile-start-spec = tie.close (tie.spec (λ c κs. search needs) mul-result returns)

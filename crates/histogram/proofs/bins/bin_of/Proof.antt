@@ -5,14 +5,8 @@ use borrow.Author.Needs.{needs}
 use Rattle.histogram.proofs.bins.bin_of.Statement.{statement}
 use Rattle.histogram.proofs.bins.bin_of.Tie as tie
 
-clamp-f64-requires : tie.Need-clamp-f64-requires
-clamp-f64-requires c κs = search needs
-
 trunc-small-requires : tie.Need-trunc-small-requires
 trunc-small-requires c κs = place-small _ _ (c .clamp-f64 .ensures)
-
-cast-result : tie.Need-cast-result
-cast-result c = search needs
 
 returns : tie.Need-returns
 returns c = (bin-below _ _ _ _ _ (c .before .before .clamp-f64 .ensures) (c .before .trunc-small .ensures) (c .if1 .taken), omega arith)
@@ -22,4 +16,4 @@ returns-2 c = (bin-last _ _ _ _ _ (c .before .before .clamp-f64 .ensures) (c .be
 
 pub bin-of-spec : {M : Type 1} → statement M
 bin-of-spec =
-    tie.close (tie.spec clamp-f64-requires trunc-small-requires cast-result returns returns-2)
+    tie.close (tie.spec (λ c κs. search needs) trunc-small-requires (λ c. search needs) returns returns-2)

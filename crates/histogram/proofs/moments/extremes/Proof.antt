@@ -5,7 +5,7 @@ use Prim.Native.Nat.{_-_}
 use native.Mathlib.Omega.{arith}
 use lib.ListN.{length}
 use Rattle.histogram.specs.Extremes.{extremesFrom}
-use Rattle.histogram.specs.Passes.{extremesPass}
+use Rattle.histogram.specs.Passes.{extremes}
 use Rattle.histogram.proofs.Passes.{Along, extremes-fold, start, finish, skip, bad, take}
 use borrow.Author.Needs.{needs}
 use Rattle.histogram.proofs.moments.extremes.Statement.{statement}
@@ -17,40 +17,16 @@ Inv-loop db valid-mask m₀ i₀ m i = Along extremesFrom valid-mask db m i
 abbrev μ-loop : tie.MeasureT-loop
 μ-loop db valid-mask m₀ i₀ m i = length db - i
 
-no-moments-requires : tie.Need-no-moments-requires Inv-loop μ-loop
-no-moments-requires c κs = search needs
-
 loop-holds : tie.Need-loop-holds Inv-loop μ-loop
 loop-holds c = start extremes-fold _ _ _ (c .no-moments .ensures)
 
-shared-slice-read-mark : tie.Need-shared-slice-read-mark Inv-loop μ-loop
-shared-slice-read-mark c = search needs
-
-mul-v : tie.Need-mul-v Inv-loop μ-loop
-mul-v c = search needs
-
-shared-slice-read-v : tie.Need-shared-slice-read-v Inv-loop μ-loop
-shared-slice-read-v c = search needs
-
-decibel-refused-requires : tie.Need-decibel-refused-requires Inv-loop μ-loop
-decibel-refused-requires c κs = search needs
-
 returns : tie.Need-returns Inv-loop μ-loop
-unfolding extremesPass
+unfolding extremes
 returns c =
     let l = c .before .before .before .before .before .before in
     let a = l .before .before .before .before .args in
     sym (bad extremes-fold (a .valid-mask .now) (a .db .now) (l .loop .m) (l .loop .i) (l .loop .inv) (omega arith) (omega arith) (c .before .before .before .if1 .taken)
     (sym (c .before .decibel-refused .ensures) ∙ c .if2 .taken))
-
-with-extreme-requires : tie.Need-with-extreme-requires Inv-loop μ-loop
-with-extreme-requires c κs = search needs
-
-add-i : tie.Need-add-i Inv-loop μ-loop
-add-i c = search needs
-
-loop-less : tie.Need-loop-less Inv-loop μ-loop
-loop-less c = search needs
 
 loop-again : tie.Need-loop-again Inv-loop μ-loop
 loop-again c =
@@ -62,7 +38,7 @@ loop-again c =
     (c .if1 .came)
 
 returns-2 : tie.Need-returns-2 Inv-loop μ-loop
-unfolding extremesPass
+unfolding extremes
 returns-2 c =
     let l = c .before in
     let a = l .before .before .before .before .args in
@@ -74,15 +50,15 @@ extremes-spec =
     (tie.spec
     Inv-loop
     μ-loop
-    no-moments-requires
+    (λ c κs. search needs)
     loop-holds
-    shared-slice-read-mark
-    mul-v
-    shared-slice-read-v
-    decibel-refused-requires
+    (λ c. search needs)
+    (λ c. search needs)
+    (λ c. search needs)
+    (λ c κs. search needs)
     returns
-    with-extreme-requires
-    add-i
-    loop-less
+    (λ c κs. search needs)
+    (λ c. search needs)
+    (λ c. search needs)
     loop-again
     returns-2)

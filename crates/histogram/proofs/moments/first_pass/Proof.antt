@@ -17,23 +17,8 @@ Inv-loop db valid-mask m₀ i₀ m i = Along momentsFrom valid-mask db m i
 abbrev μ-loop : tie.MeasureT-loop
 μ-loop db valid-mask m₀ i₀ m i = length db - i
 
-no-moments-requires : tie.Need-no-moments-requires Inv-loop μ-loop
-no-moments-requires c κs = search needs
-
 loop-holds : tie.Need-loop-holds Inv-loop μ-loop
 loop-holds c = start moments-fold _ _ _ (c .no-moments .ensures)
-
-shared-slice-read-if1 : tie.Need-shared-slice-read-if1 Inv-loop μ-loop
-shared-slice-read-if1 c = search needs
-
-mul-v : tie.Need-mul-v Inv-loop μ-loop
-mul-v c = search needs
-
-shared-slice-read-v : tie.Need-shared-slice-read-v Inv-loop μ-loop
-shared-slice-read-v c = search needs
-
-decibel-refused-requires : tie.Need-decibel-refused-requires Inv-loop μ-loop
-decibel-refused-requires c κs = search needs
 
 returns : tie.Need-returns Inv-loop μ-loop
 unfolding firstPass
@@ -42,15 +27,6 @@ returns c =
     let a = l .before .before .before .before .args in
     sym (bad moments-fold (a .valid-mask .now) (a .db .now) (l .loop .m) (l .loop .i) (l .loop .inv) (omega arith) (omega arith) (c .before .before .before .if1 .taken)
     (sym (c .before .decibel-refused .ensures) ∙ c .if2 .taken))
-
-with-value-requires : tie.Need-with-value-requires Inv-loop μ-loop
-with-value-requires c κs = search needs
-
-add-i : tie.Need-add-i Inv-loop μ-loop
-add-i c = search needs
-
-loop-less : tie.Need-loop-less Inv-loop μ-loop
-loop-less c = search needs
 
 loop-again : tie.Need-loop-again Inv-loop μ-loop
 loop-again c =
@@ -74,15 +50,15 @@ first-pass-spec =
     (tie.spec
     Inv-loop
     μ-loop
-    no-moments-requires
+    (λ c κs. search needs)
     loop-holds
-    shared-slice-read-if1
-    mul-v
-    shared-slice-read-v
-    decibel-refused-requires
+    (λ c. search needs)
+    (λ c. search needs)
+    (λ c. search needs)
+    (λ c κs. search needs)
     returns
-    with-value-requires
-    add-i
-    loop-less
+    (λ c κs. search needs)
+    (λ c. search needs)
+    (λ c. search needs)
     loop-again
     returns-2)

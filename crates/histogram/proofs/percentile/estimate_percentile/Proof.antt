@@ -2,14 +2,11 @@
 use mathlib.Core.Path.{ap}
 use native.Mathlib.Omega.{arith}
 use Rattle.types.specs.declared.BinRank.{BinRank}
-use Rattle.spec.specs.Percentile.{percentile}
-use Rattle.histogram.proofs.Seeking.{target-most, seek-bin-most, seek-rank-most}
+use Rattle.spec.specs.Percentile.{estimatePercentile}
+use Rattle.histogram.proofs.Seeking.{target-most, findBin-bin-most, findBin-rank-most}
 use borrow.Author.Needs.{needs}
 use Rattle.histogram.proofs.percentile.estimate_percentile.Statement.{statement}
 use Rattle.histogram.proofs.percentile.estimate_percentile.Tie as tie
-
-target-of-requires : tie.Need-target-of-requires
-target-of-requires c κs = search needs
 
 find-bin-requires : tie.Need-find-bin-requires
 find-bin-requires c κs =
@@ -25,14 +22,14 @@ value-at-requires c κs =
     let e = c .find-bin .ensures in
     let b = ap (λ (r : BinRank). r .bin) e in
     let w = ap (λ (r : BinRank). r .rank) e in (
-      omega (arith, b, s .pre, seek-bin-most (t .result) 0 0 h (omega (arith, s .pre))),
-      omega (arith, w, seek-rank-most (t .result) 0 0 h, s .fits .count, t .ensures, target-most (s .args .p) (s .args .count)),
+      omega (arith, b, s .pre, findBin-bin-most (t .result) 0 0 h (omega (arith, s .pre))),
+      omega (arith, w, findBin-rank-most (t .result) 0 0 h, s .fits .count, t .ensures, target-most (s .args .p) (s .args .count)),
     )
 
 returns : tie.Need-returns
-unfolding percentile
+unfolding estimatePercentile
 returns c = cc
 
 pub estimate-percentile-spec : {M : Type 1} → statement M
 estimate-percentile-spec =
-    tie.close (tie.spec target-of-requires find-bin-requires value-at-requires returns)
+    tie.close (tie.spec (λ c κs. search needs) find-bin-requires value-at-requires returns)

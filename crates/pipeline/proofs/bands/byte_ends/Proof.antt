@@ -19,23 +19,8 @@ abbrev μ-loop : tie.MeasureT-loop
 loop-holds : tie.Need-loop-holds Inv-loop μ-loop
 loop-holds c = (omega arith, refl, refl)
 
-shared-slice-read-x : tie.Need-shared-slice-read-x Inv-loop μ-loop
-shared-slice-read-x c = omega arith
-
 cast-x : tie.Need-cast-x Inv-loop μ-loop
 cast-x c = omega (arith, c .shared-slice-known2 .given (c .before .before .loop .i))
-
-min-u16-requires : tie.Need-min-u16-requires Inv-loop μ-loop
-min-u16-requires c κs = search needs
-
-max-u16-requires : tie.Need-max-u16-requires Inv-loop μ-loop
-max-u16-requires c κs = search needs
-
-add-i : tie.Need-add-i Inv-loop μ-loop
-add-i c = omega arith
-
-loop-less : tie.Need-loop-less Inv-loop μ-loop
-loop-less c = omega arith
 
 loop-again : tie.Need-loop-again Inv-loop μ-loop
 loop-again c =
@@ -59,11 +44,11 @@ byte-ends-spec =
     Inv-loop
     μ-loop
     loop-holds
-    shared-slice-read-x
+    (λ c. omega arith)
     cast-x
-    min-u16-requires
-    max-u16-requires
-    add-i
-    loop-less
+    (λ c κs. search needs)
+    (λ c κs. search needs)
+    (λ c. omega arith)
+    (λ c. omega arith)
     loop-again
     returns)

@@ -17,16 +17,10 @@ use borrow.Author.Needs.{needs}
 use Rattle.pipeline.proofs.bands.equalize_u16.Statement.{statement}
 use Rattle.pipeline.proofs.bands.equalize_u16.Tie as tie
 
-enum-known-window : tie.Need-enum-known-window
-enum-known-window c = search needs
-
 autoscale-db-image-u16-requires : tie.Need-autoscale-db-image-u16-requires
 autoscale-db-image-u16-requires c κs =
     let p = c .before .before .before .before .before .before .pre in
     (p .band .db-length ∙ sym (p .out-length), p .band .marks-length ∙ sym (p .out-length))
-
-same-length : tie.Need-same-length
-same-length c = search needs
 
 returns : tie.Need-returns
 returns c =
@@ -37,9 +31,6 @@ returns c =
     replies-same (painting (a .window) (values full16 Clahe (a .rows) (a .cols) px (a .window))) (now (a .out))
     (painting (a .window) (plainValues full16 px (a .window))) (replyNumber (l .result)) (l .last .1 .1 .1 .0)
     (ap (λ (g : List ℕ). painting (a .window) (g)) (values-none full16 Clahe (a .rows) (a .cols) px (a .window) (t .match .keys2))) (l .ensures .0) (l .ensures .1)
-
-is-painted-requires : tie.Need-is-painted-requires
-is-painted-requires c κs = search needs
 
 returns-2 : tie.Need-returns-2
 unfolding replyNumber
@@ -56,12 +47,6 @@ unfolding isClahe
 paint-clahe-u16-requires c κs =
     let p = c .before .before .before .before .before .before .before .before .before .before .before .pre in
     (p .band, p .work-length refl, p .out-length)
-
-same-length-2 : tie.Need-same-length-2
-same-length-2 c = search needs
-
-same-length-3 : tie.Need-same-length-3
-same-length-3 c = search needs
 
 returns-3 : tie.Need-returns-3
 unfolding replyNumber
@@ -82,13 +67,13 @@ pub equalize-u16-spec : {M : Type 1} → statement M
 equalize-u16-spec =
     tie.close
     (tie.spec
-    enum-known-window
+    (λ c. search needs)
     autoscale-db-image-u16-requires
-    same-length
+    (λ c. search needs)
     returns
-    is-painted-requires
+    (λ c κs. search needs)
     returns-2
     paint-clahe-u16-requires
-    same-length-2
-    same-length-3
+    (λ c. search needs)
+    (λ c. search needs)
     returns-3)

@@ -18,16 +18,10 @@ use borrow.Author.Needs.{needs}
 use Rattle.pipeline.proofs.bands.equalize_u8.Statement.{statement}
 use Rattle.pipeline.proofs.bands.equalize_u8.Tie as tie
 
-enum-known-window : tie.Need-enum-known-window
-enum-known-window c = search needs
-
 autoscale-db-image-u8-requires : tie.Need-autoscale-db-image-u8-requires
 autoscale-db-image-u8-requires c κs =
     let p = c .before .before .before .before .before .before .pre in
     (p .band .db-length ∙ sym (p .out-length), p .band .marks-length ∙ sym (p .out-length))
-
-same-length : tie.Need-same-length
-same-length c = search needs
 
 returns : tie.Need-returns
 returns c =
@@ -38,9 +32,6 @@ returns c =
     replies-same (painting (a .window) (stretch (values full8 Clahe (a .rows) (a .cols) px (a .window)))) (now (a .out))
     (painting (a .window) (stretch (plainValues full8 px (a .window)))) (replyNumber (l .result)) (l .last .1 .1 .1 .0)
     (ap (λ (g : List ℕ). painting (a .window) (stretch (g))) (values-none full8 Clahe (a .rows) (a .cols) px (a .window) (t .match .keys2))) (l .ensures .0) (l .ensures .1)
-
-is-painted-requires : tie.Need-is-painted-requires
-is-painted-requires c κs = search needs
 
 returns-2 : tie.Need-returns-2
 unfolding replyNumber
@@ -57,15 +48,6 @@ unfolding isClahe
 paint-clahe-u8-requires c κs =
     let p = c .before .before .before .before .before .before .before .before .before .before .before .pre in
     (p .band, p .work-length refl, p .out-length)
-
-scale-bytes-requires : tie.Need-scale-bytes-requires
-scale-bytes-requires c κs = search needs
-
-same-length-2 : tie.Need-same-length-2
-same-length-2 c = search needs
-
-same-length-3 : tie.Need-same-length-3
-same-length-3 c = search needs
 
 returns-3 : tie.Need-returns-3
 unfolding replyNumber
@@ -86,14 +68,14 @@ pub equalize-u8-spec : {M : Type 1} → statement M
 equalize-u8-spec =
     tie.close
     (tie.spec
-    enum-known-window
+    (λ c. search needs)
     autoscale-db-image-u8-requires
-    same-length
+    (λ c. search needs)
     returns
-    is-painted-requires
+    (λ c κs. search needs)
     returns-2
     paint-clahe-u8-requires
-    scale-bytes-requires
-    same-length-2
-    same-length-3
+    (λ c κs. search needs)
+    (λ c. search needs)
+    (λ c. search needs)
     returns-3)

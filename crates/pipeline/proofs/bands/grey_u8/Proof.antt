@@ -18,20 +18,11 @@ use borrow.Author.Needs.{needs}
 use Rattle.pipeline.proofs.bands.grey_u8.Statement.{statement}
 use Rattle.pipeline.proofs.bands.grey_u8.Tie as tie
 
-is-clahe-requires : tie.Need-is-clahe-requires
-is-clahe-requires c κs = search needs
-
 equalize-u8-requires : tie.Need-equalize-u8-requires
 equalize-u8-requires c κs =
     let t = c .before .before in
     let p = t .before .before .before .before .before .before .pre in
     record { band = p .band; out-length = p .out-length; work-length = λ _. p .work-length (sym (t .before .is-clahe .ensures) ∙ t .if1 .taken) }
-
-same-length : tie.Need-same-length
-same-length c = search needs
-
-same-length-2 : tie.Need-same-length-2
-same-length-2 c = search needs
 
 returns : tie.Need-returns
 returns c =
@@ -51,9 +42,6 @@ autoscale-db-image-u8-requires c κs =
     let p = c .before .before .before .before .before .before .before .pre in
     (p .band .db-length ∙ sym (p .out-length), p .band .marks-length ∙ sym (p .out-length))
 
-same-length-3 : tie.Need-same-length-3
-same-length-3 c = search needs
-
 returns-2 : tie.Need-returns-2
 returns-2 c =
     let q = c .before .before in
@@ -71,11 +59,11 @@ pub grey-u8-spec : {M : Type 1} → statement M
 grey-u8-spec =
     tie.close
     (tie.spec
-    is-clahe-requires
+    (λ c κs. search needs)
     equalize-u8-requires
-    same-length
-    same-length-2
+    (λ c. search needs)
+    (λ c. search needs)
     returns
     autoscale-db-image-u8-requires
-    same-length-3
+    (λ c. search needs)
     returns-2)

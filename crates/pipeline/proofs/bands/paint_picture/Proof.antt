@@ -8,9 +8,6 @@ use borrow.Author.Needs.{needs}
 use Rattle.pipeline.proofs.bands.paint_picture.Statement.{statement}
 use Rattle.pipeline.proofs.bands.paint_picture.Tie as tie
 
-picture-grey-requires : tie.Need-picture-grey-requires
-picture-grey-requires c κs = search needs
-
 picture-grey-requires-2 : tie.Need-picture-grey-requires-2
 picture-grey-requires-2 c κs =
     let p = c .before .before .before .before .before .before .before .before .before .before .before .before .before .before .before .before .before .pre in
@@ -24,18 +21,6 @@ compose-by-mode-and-strategy-requires c κs =
     let l2 = c .before .before .before .before .before .before .before .picture-grey2 .kept .1 .1 .1 .1 .1 .1 .0 ∙ p .band2 .out-length in
     (l2 ∙ sym l1, p .rgb-length ∙ ap (λ (n : ℕ). 3 * n) (sym l1), omega (arith, l1, mul-le-mul (p .band1 .band .tall) (p .band1 .band .wide)))
 
-same-length : tie.Need-same-length
-same-length c = search needs
-
-same-length-2 : tie.Need-same-length-2
-same-length-2 c = search needs
-
-same-length-3 : tie.Need-same-length-3
-same-length-3 c = search needs
-
-same-length-4 : tie.Need-same-length-4
-same-length-4 c = search needs
-
 returns : tie.Need-returns
 returns c =
     let g1 = c .before .before .before .before .before .before .before .before .before .before .before .before .before .before .before .before .before .picture-grey in
@@ -47,11 +32,11 @@ pub paint-picture-spec : {M : Type 1} → statement M
 paint-picture-spec =
     tie.close
     (tie.spec
-    picture-grey-requires
+    (λ c κs. search needs)
     picture-grey-requires-2
     compose-by-mode-and-strategy-requires
-    same-length
-    same-length-2
-    same-length-3
-    same-length-4
+    (λ c. search needs)
+    (λ c. search needs)
+    (λ c. search needs)
+    (λ c. search needs)
     returns)

@@ -11,16 +11,10 @@ use borrow.Author.Needs.{needs}
 use Rattle.pipeline.proofs.bands.picture_grey.Statement.{statement}
 use Rattle.pipeline.proofs.bands.picture_grey.Tie as tie
 
-is-tamed-requires : tie.Need-is-tamed-requires
-is-tamed-requires c κs = search needs
-
 autoscale-db-image-tamed-synrgb-u8-requires : tie.Need-autoscale-db-image-tamed-synrgb-u8-requires
 autoscale-db-image-tamed-synrgb-u8-requires c κs =
     let p = c .before .before .before .before .before .before .before .pre .0 in
     (p .band .db-length ∙ sym (p .out-length), p .band .marks-length ∙ sym (p .out-length))
-
-same-length : tie.Need-same-length
-same-length c = search needs
 
 returns : tie.Need-returns
 returns c =
@@ -36,12 +30,6 @@ returns c =
 
 grey-u8-requires : tie.Need-grey-u8-requires
 grey-u8-requires c κs = c .before .before .before .before .before .before .before .before .pre .0
-
-same-length-2 : tie.Need-same-length-2
-same-length-2 c = search needs
-
-same-length-3 : tie.Need-same-length-3
-same-length-3 c = search needs
 
 returns-2 : tie.Need-returns-2
 returns-2 c =
@@ -59,11 +47,11 @@ pub picture-grey-spec : {M : Type 1} → statement M
 picture-grey-spec =
     tie.close
     (tie.spec
-    is-tamed-requires
+    (λ c κs. search needs)
     autoscale-db-image-tamed-synrgb-u8-requires
-    same-length
+    (λ c. search needs)
     returns
     grey-u8-requires
-    same-length-2
-    same-length-3
+    (λ c. search needs)
+    (λ c. search needs)
     returns-2)

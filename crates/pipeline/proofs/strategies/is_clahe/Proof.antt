@@ -5,9 +5,6 @@ use Rattle.pipeline.proofs.Apart.{not-clahe}
 use Rattle.pipeline.proofs.strategies.is_clahe.Statement.{statement}
 use Rattle.pipeline.proofs.strategies.is_clahe.Tie as tie
 
-enum-told : tie.Need-enum-told
-enum-told c = search needs
-
 returns : tie.Need-returns
 unfolding isClahe
 returns c = rw (c .enum-told .given .1)
@@ -16,4 +13,4 @@ returns-2 : tie.Need-returns-2
 returns-2 c = not-clahe (c .before .args .strategy) (c .match .keys2)
 
 pub is-clahe-spec : {M : Type 1} → statement M
-is-clahe-spec = tie.close (tie.spec enum-told returns returns-2)
+is-clahe-spec = tie.close (tie.spec (λ c. search needs) returns returns-2)

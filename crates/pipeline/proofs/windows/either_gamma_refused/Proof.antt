@@ -4,17 +4,11 @@ use borrow.Author.Needs.{needs}
 use Rattle.pipeline.proofs.windows.either_gamma_refused.Statement.{statement}
 use Rattle.pipeline.proofs.windows.either_gamma_refused.Tie as tie
 
-gamma-refused-requires : tie.Need-gamma-refused-requires
-gamma-refused-requires c κs = search needs
-
 returns : tie.Need-returns
 returns c = rw (sym (c .before .gamma-refused .ensures) ∙ c .if1 .taken)
-
-gamma-refused-requires-2 : tie.Need-gamma-refused-requires-2
-gamma-refused-requires-2 c κs = search needs
 
 returns-2 : tie.Need-returns-2
 returns-2 c = rw (sym (c .before .before .gamma-refused .ensures) ∙ c .before .if1 .left) (c .gamma-refused2 .ensures)
 
 pub either-gamma-refused-spec : {M : Type 1} → statement M
-either-gamma-refused-spec = tie.close (tie.spec gamma-refused-requires returns gamma-refused-requires-2 returns-2)
+either-gamma-refused-spec = tie.close (tie.spec (λ c κs. search needs) returns (λ c κs. search needs) returns-2)

@@ -4,17 +4,11 @@ use borrow.Author.Needs.{needs}
 use Rattle.pipeline.proofs.windows.either_tiles_refused.Statement.{statement}
 use Rattle.pipeline.proofs.windows.either_tiles_refused.Tie as tie
 
-tiles-refused-requires : tie.Need-tiles-refused-requires
-tiles-refused-requires c κs = search needs
-
 returns : tie.Need-returns
-returns c = rw (sym (c .before .tiles-refused .ensures) ∙ c .if1 .taken)
-
-tiles-refused-requires-2 : tie.Need-tiles-refused-requires-2
-tiles-refused-requires-2 c κs = search needs
+returns c = rw (sym (c .before .window-tiles-refused .ensures) ∙ c .if1 .taken)
 
 returns-2 : tie.Need-returns-2
-returns-2 c = rw (sym (c .before .before .tiles-refused .ensures) ∙ c .before .if1 .left) (c .tiles-refused2 .ensures)
+returns-2 c = rw (sym (c .before .before .window-tiles-refused .ensures) ∙ c .before .if1 .left) (c .window-tiles-refused2 .ensures)
 
 pub either-tiles-refused-spec : {M : Type 1} → statement M
-either-tiles-refused-spec = tie.close (tie.spec tiles-refused-requires returns tiles-refused-requires-2 returns-2)
+either-tiles-refused-spec = tie.close (tie.spec (λ c κs. search needs) returns (λ c κs. search needs) returns-2)

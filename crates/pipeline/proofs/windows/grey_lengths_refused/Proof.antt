@@ -8,9 +8,6 @@ use Rattle.spec.specs.Refusals.{unlike}
 use Rattle.pipeline.proofs.windows.grey_lengths_refused.Statement.{statement}
 use Rattle.pipeline.proofs.windows.grey_lengths_refused.Tie as tie
 
-lengths-refused-requires : tie.Need-lengths-refused-requires
-lengths-refused-requires c κs = search needs
-
 returns : tie.Need-returns
 returns c = rw (sym (c .before .lengths-refused .ensures) ∙ c .if1 .taken)
 
@@ -25,9 +22,6 @@ returns-2 c =
     let l = c .before in
     rw (sym (l .before .lengths-refused .ensures) ∙ l .if1 .left, ne-eqb _ _ (c .if2 .taken))
 
-work-refused-requires : tie.Need-work-refused-requires
-work-refused-requires c κs = search needs
-
 returns-3 : tie.Need-returns-3
 unfolding unlike
 returns-3 c =
@@ -38,4 +32,4 @@ returns-3 c =
 pub grey-lengths-refused-spec : {M : Type 1} → statement M
 grey-lengths-refused-spec =
     tie.close
-    (tie.spec lengths-refused-requires returns mul-if2 returns-2 work-refused-requires returns-3)
+    (tie.spec (λ c κs. search needs) returns mul-if2 returns-2 (λ c κs. search needs) returns-3)

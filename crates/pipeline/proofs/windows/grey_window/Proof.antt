@@ -6,17 +6,11 @@ use Rattle.pipeline.proofs.GreyWindow.{grey-shape, grey-bad, grey-tiles
 use Rattle.pipeline.proofs.windows.grey_window.Statement.{statement}
 use Rattle.pipeline.proofs.windows.grey_window.Tie as tie
 
-grey-refusal-requires : tie.Need-grey-refusal-requires
-grey-refusal-requires c κs = search needs
-
 returns : tie.Need-returns
 returns c = grey-shape _ _ _ _ _ _ _ _ (c .before .grey-refusal .ensures) (c .if1 .taken)
 
 band-window-requires : tie.Need-band-window-requires
 band-window-requires c κs = passable (grey-ready _ _ _ _ _ _ _ _ (sym (c .before .grey-refusal .ensures) ∙ c .if1 .left) .band)
-
-enum-known-window : tie.Need-enum-known-window
-enum-known-window c = search needs
 
 returns-2 : tie.Need-returns-2
 returns-2 c =
@@ -24,8 +18,8 @@ returns-2 c =
     let b = w .before in
     grey-bad _ _ _ _ _ _ _ (sym (b .before .grey-refusal .ensures) ∙ b .if1 .left) _ (w .band-window .ensures) _ (c .before .window .given .1)
 
-tiles-refused-requires : tie.Need-tiles-refused-requires
-tiles-refused-requires c κs =
+window-tiles-refused-requires : tie.Need-window-tiles-refused-requires
+window-tiles-refused-requires c κs =
     let b = c .before .before in
     let s = grey-ready _ _ _ _ _ _ _ _ (sym (b .before .grey-refusal .ensures) ∙ b .if1 .left) .band in
     (s .tall, s .wide)
@@ -36,10 +30,7 @@ returns-3 c =
     let w = k .before in
     let b = w .before in
     grey-tiles _ _ _ _ _ _ _ (sym (b .before .grey-refusal .ensures) ∙ b .if1 .left) _ (w .band-window .ensures) (k .match .keys2)
-    (sym (c .before .tiles-refused .ensures) ∙ c .if2 .taken)
-
-gamma-refused-requires : tie.Need-gamma-refused-requires
-gamma-refused-requires c κs = search needs
+    (sym (c .before .window-tiles-refused .ensures) ∙ c .if2 .taken)
 
 returns-4 : tie.Need-returns-4
 returns-4 c =
@@ -48,7 +39,7 @@ returns-4 c =
     let w = k .before in
     let b = w .before in
     grey-gamma _ _ _ _ _ _ _ (sym (b .before .grey-refusal .ensures) ∙ b .if1 .left) _ (w .band-window .ensures) (k .match .keys2)
-    (sym (t .before .tiles-refused .ensures) ∙ t .if2 .left) (sym (c .before .gamma-refused .ensures) ∙ c .if3 .taken)
+    (sym (t .before .window-tiles-refused .ensures) ∙ t .if2 .left) (sym (c .before .gamma-refused .ensures) ∙ c .if3 .taken)
 
 returns-5 : tie.Need-returns-5
 returns-5 c =
@@ -57,19 +48,19 @@ returns-5 c =
     let w = k .before in
     let b = w .before in
     grey-unrefused _ _ _ _ _ _ _ (sym (b .before .grey-refusal .ensures) ∙ b .if1 .left) _ (w .band-window .ensures) (k .match .keys2)
-    (sym (t .before .tiles-refused .ensures) ∙ t .if2 .left) (sym (c .before .gamma-refused .ensures) ∙ c .if3 .left)
+    (sym (t .before .window-tiles-refused .ensures) ∙ t .if2 .left) (sym (c .before .gamma-refused .ensures) ∙ c .if3 .left)
 
 pub grey-window-spec : {M : Type 1} → statement M
 grey-window-spec =
     tie.close
     (tie.spec
-    grey-refusal-requires
+    (λ c κs. search needs)
     returns
     band-window-requires
-    enum-known-window
+    (λ c. search needs)
     returns-2
-    tiles-refused-requires
+    window-tiles-refused-requires
     returns-3
-    gamma-refused-requires
+    (λ c κs. search needs)
     returns-4
     returns-5)

@@ -8,14 +8,8 @@ use Rattle.spec.specs.Refusals.{unlike}
 use Rattle.pipeline.proofs.windows.picture_lengths_refused.Statement.{statement}
 use Rattle.pipeline.proofs.windows.picture_lengths_refused.Tie as tie
 
-lengths-refused-requires : tie.Need-lengths-refused-requires
-lengths-refused-requires c κs = search needs
-
 returns : tie.Need-returns
 returns c = rw (sym (c .before .lengths-refused .ensures) ∙ c .if1 .taken)
-
-lengths-refused-requires-2 : tie.Need-lengths-refused-requires-2
-lengths-refused-requires-2 c κs = search needs
 
 returns-2 : tie.Need-returns-2
 returns-2 c =
@@ -57,9 +51,6 @@ returns-5 c =
     rw (sym (b .before .lengths-refused .ensures) ∙ b .if1 .left, sym (a .before .lengths-refused2 .ensures) ∙ a .if2 .left, eq-eqb _ _ (g1 .if3 .left), eq-eqb _ _ (g2 .if4 .left),
       ne-eqb _ _ (c .if5 .taken))
 
-work-refused-requires : tie.Need-work-refused-requires
-work-refused-requires c κs = search needs
-
 returns-6 : tie.Need-returns-6
 unfolding unlike
 returns-6 c =
@@ -75,14 +66,14 @@ pub picture-lengths-refused-spec : {M : Type 1} → statement M
 picture-lengths-refused-spec =
     tie.close
     (tie.spec
-    lengths-refused-requires
+    (λ c κs. search needs)
     returns
-    lengths-refused-requires-2
+    (λ c κs. search needs)
     returns-2
     mul-n
     returns-3
     returns-4
     mul-if5
     returns-5
-    work-refused-requires
+    (λ c κs. search needs)
     returns-6)

@@ -6,9 +6,6 @@ use Rattle.raster.proofs.Bands.{sides-accepted}
 use Rattle.pipeline.proofs.windows.picture_refusal.Statement.{statement}
 use Rattle.pipeline.proofs.windows.picture_refusal.Tie as tie
 
-sides-refused-requires : tie.Need-sides-refused-requires
-sides-refused-requires c κs = search needs
-
 returns : tie.Need-returns
 unfolding firstOf
 returns c = rw (sym (c .before .sides-refused .ensures) ∙ c .if1 .taken)
@@ -21,9 +18,6 @@ unfolding firstOf
 returns-2 c =
     let s = c .before .before in
     rw (sym (s .before .sides-refused .ensures) ∙ s .if1 .left, sym (c .before .picture-lengths-refused .ensures) ∙ c .if2 .taken)
-
-either-marks-refused-requires : tie.Need-either-marks-refused-requires
-either-marks-refused-requires c κs = search needs
 
 returns-3 : tie.Need-returns-3
 unfolding firstOf
@@ -43,10 +37,10 @@ pub picture-refusal-spec : {M : Type 1} → statement M
 picture-refusal-spec =
     tie.close
     (tie.spec
-    sides-refused-requires
+    (λ c κs. search needs)
     returns
     picture-lengths-refused-requires
     returns-2
-    either-marks-refused-requires
+    (λ c κs. search needs)
     returns-3
     returns-4)

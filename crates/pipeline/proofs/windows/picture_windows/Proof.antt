@@ -6,17 +6,11 @@ use Rattle.pipeline.proofs.PictureWindow.{picture-shape, picture-bad-fi
 use Rattle.pipeline.proofs.windows.picture_windows.Statement.{statement}
 use Rattle.pipeline.proofs.windows.picture_windows.Tie as tie
 
-picture-refusal-requires : tie.Need-picture-refusal-requires
-picture-refusal-requires c κs = search needs
-
 returns : tie.Need-returns
 returns c = picture-shape _ _ _ _ _ _ _ _ _ (c .before .picture-refusal .ensures) (c .if1 .taken)
 
 band-picture-window-requires : tie.Need-band-picture-window-requires
 band-picture-window-requires c κs = passable (picture-sized _ _ _ _ _ _ _ _ _ (sym (c .before .picture-refusal .ensures) ∙ c .if1 .left) .band1 .band)
-
-enum-known-window1 : tie.Need-enum-known-window1
-enum-known-window1 c = search needs
 
 returns-2 : tie.Need-returns-2
 returns-2 c =
@@ -28,9 +22,6 @@ band-picture-window-requires-2 : tie.Need-band-picture-window-requires-2
 band-picture-window-requires-2 c κs =
     let b = c .before .before in
     passable (picture-sized _ _ _ _ _ _ _ _ _ (sym (b .before .picture-refusal .ensures) ∙ b .if1 .left) .band2 .band)
-
-enum-known-window2 : tie.Need-enum-known-window2
-enum-known-window2 c = search needs
 
 returns-3 : tie.Need-returns-3
 returns-3 c =
@@ -56,9 +47,6 @@ returns-4 c =
     let b = w .before in
     picture-tiles _ _ _ _ _ _ _ _ (sym (b .before .picture-refusal .ensures) ∙ b .if1 .left) _ (w .band-picture-window .ensures) (k .match .keys2) _ (v .band-picture-window2 .ensures) (l .match2 .keys2)
     (sym (c .before .either-tiles-refused .ensures) ∙ c .if2 .taken)
-
-either-gamma-refused-requires : tie.Need-either-gamma-refused-requires
-either-gamma-refused-requires c κs = search needs
 
 returns-5 : tie.Need-returns-5
 returns-5 c =
@@ -86,16 +74,16 @@ pub picture-windows-spec : {M : Type 1} → statement M
 picture-windows-spec =
     tie.close
     (tie.spec
-    picture-refusal-requires
+    (λ c κs. search needs)
     returns
     band-picture-window-requires
-    enum-known-window1
+    (λ c. search needs)
     returns-2
     band-picture-window-requires-2
-    enum-known-window2
+    (λ c. search needs)
     returns-3
     either-tiles-refused-requires
     returns-4
-    either-gamma-refused-requires
+    (λ c κs. search needs)
     returns-5
     returns-6)

@@ -7,18 +7,6 @@ use borrow.Author.Needs.{needs}
 use Rattle.quicklook.proofs.band.put_window.Statement.{statement}
 use Rattle.quicklook.proofs.band.put_window.Tie as tie
 
-autoscale-window-requires : tie.Need-autoscale-window-requires
-autoscale-window-requires c κs = search needs
-
-enum-known-low : tie.Need-enum-known-low
-enum-known-low c = search needs
-
-enum-told : tie.Need-enum-told
-enum-told c = search needs
-
-enum-known-k : tie.Need-enum-known-k
-enum-known-k c = search needs
-
 returns : tie.Need-returns
 unfolding readWindow blankOf windowFloats
 returns c =
@@ -41,10 +29,10 @@ pub put-window-spec : {M : Type 1} → statement M
 put-window-spec =
     tie.close
     (tie.spec
-    autoscale-window-requires
-    enum-known-low
-    enum-told
-    enum-known-k
+    (λ c κs. search needs)
+    (λ c. search needs)
+    (λ c. search needs)
+    (λ c. search needs)
     returns
     returns-2
     returns-3)

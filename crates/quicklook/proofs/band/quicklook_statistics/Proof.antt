@@ -7,18 +7,6 @@ use borrow.Author.Needs.{needs}
 use Rattle.quicklook.proofs.band.quicklook_statistics.Statement.{statement}
 use Rattle.quicklook.proofs.band.quicklook_statistics.Tie as tie
 
-compute-histogram-stats-requires : tie.Need-compute-histogram-stats-requires
-compute-histogram-stats-requires c κs = search needs
-
-enum-known-stats : tie.Need-enum-known-stats
-enum-known-stats c = search needs
-
-put-statistics-requires : tie.Need-put-statistics-requires
-put-statistics-requires c κs = search needs
-
-enum-known-k : tie.Need-enum-known-k
-enum-known-k c = search needs
-
 returns : tie.Need-returns
 unfolding readStatistics
 returns c =
@@ -35,9 +23,9 @@ pub quicklook-statistics-spec : {M : Type 1} → statement M
 quicklook-statistics-spec =
     tie.close
     (tie.spec
-    compute-histogram-stats-requires
-    enum-known-stats
-    put-statistics-requires
-    enum-known-k
+    (λ c κs. search needs)
+    (λ c. search needs)
+    (λ c κs. search needs)
+    (λ c. search needs)
     returns
     returns-2)

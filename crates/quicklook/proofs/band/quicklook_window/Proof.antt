@@ -5,20 +5,8 @@ use borrow.Author.Needs.{needs}
 use Rattle.quicklook.proofs.band.quicklook_window.Statement.{statement}
 use Rattle.quicklook.proofs.band.quicklook_window.Tie as tie
 
-strategy-of-requires : tie.Need-strategy-of-requires
-strategy-of-requires c κs = search needs
-
-enum-known-strategy : tie.Need-enum-known-strategy
-enum-known-strategy c = search needs
-
-enum-told : tie.Need-enum-told
-enum-told c = search needs
-
 returns : tie.Need-returns
 returns c = refused-numbers _ _ _ _ _ _ (unnamed-strategy _ _ _ (c .before .before .strategy-of .ensures) (c .enum-told .given .1))
-
-put-window-requires : tie.Need-put-window-requires
-put-window-requires c κs = search needs
 
 returns-2 : tie.Need-returns-2
 returns-2 c =
@@ -29,9 +17,9 @@ pub quicklook-window-spec : {M : Type 1} → statement M
 quicklook-window-spec =
     tie.close
     (tie.spec
-    strategy-of-requires
-    enum-known-strategy
-    enum-told
+    (λ c κs. search needs)
+    (λ c. search needs)
+    (λ c. search needs)
     returns
-    put-window-requires
+    (λ c κs. search needs)
     returns-2)

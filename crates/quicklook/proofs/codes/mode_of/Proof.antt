@@ -1,24 +1,24 @@
 -- `quicklook::codes::mode_of` meets its contract, code by code. Assumes nothing.
 use Prim.Native.Nat.{zero-le}
-use Rattle.quicklook.specs.Codes.{modeCode}
+use Rattle.quicklook.specs.Codes.{modeOf}
 use Rattle.quicklook.proofs.Named.{past, no-mode}
 use Rattle.quicklook.proofs.codes.mode_of.Statement.{statement}
 use Rattle.quicklook.proofs.codes.mode_of.Tie as tie
 
 returns : tie.Need-returns
-unfolding modeCode
+unfolding modeOf
 returns c = rw (c .match .keys1)
 
 returns-2 : tie.Need-returns-2
-unfolding modeCode
+unfolding modeOf
 returns-2 c = rw (c .match .keys2)
 
 returns-3 : tie.Need-returns-3
-unfolding modeCode
+unfolding modeOf
 returns-3 c = rw (c .match .keys3)
 
 returns-4 : tie.Need-returns-4
-unfolding modeCode
+unfolding modeOf
 returns-4 c = rw (c .match .keys4)
 
 returns-5 : tie.Need-returns-5

@@ -6,26 +6,8 @@ use borrow.Author.Needs.{needs}
 use Rattle.quicklook.proofs.colours.quicklook_compose.Statement.{statement}
 use Rattle.quicklook.proofs.colours.quicklook_compose.Tie as tie
 
-mode-of-requires : tie.Need-mode-of-requires
-mode-of-requires c κs = search needs
-
-enum-known-mode : tie.Need-enum-known-mode
-enum-known-mode c = search needs
-
-enum-told : tie.Need-enum-told
-enum-told c = search needs
-
 returns : tie.Need-returns
 returns c = refused-list _ _ _ _ (unnamed-mode _ _ _ (c .before .before .mode-of .ensures) (c .enum-told .given .1))
-
-strategy-of-requires : tie.Need-strategy-of-requires
-strategy-of-requires c κs = search needs
-
-enum-known-strategy : tie.Need-enum-known-strategy
-enum-known-strategy c = search needs
-
-enum-told-2 : tie.Need-enum-told-2
-enum-told-2 c = search needs
 
 returns-2 : tie.Need-returns-2
 returns-2 c =
@@ -38,12 +20,6 @@ create-synthetic-rgb-by-mode-and-strategy-requires :
     tie.Need-create-synthetic-rgb-by-mode-and-strategy-requires
 create-synthetic-rgb-by-mode-and-strategy-requires c κs = search needs
 
-number-of-requires : tie.Need-number-of-requires
-number-of-requires c κs = search needs
-
-same-length : tie.Need-same-length
-same-length c = search needs
-
 returns-3 : tie.Need-returns-3
 returns-3 c =
     let r = c .before .before .before in
@@ -52,21 +28,21 @@ returns-3 c =
     same-list _ _ _ _ _ _ _
     (named-mode _ _ _ (m .before .before .mode-of .ensures) _ (m .mode .given .1)
     ∙ named-strategy _ _ _ (s .before .before .strategy-of .ensures) _ (s .strategy .given .1))
-    (c .number-of .ensures) (r .create-synthetic-rgb-by-mode-and-strategy .ensures .0) (r .create-synthetic-rgb-by-mode-and-strategy .ensures .1)
+    (c .reply-number .ensures) (r .create-synthetic-rgb-by-mode-and-strategy .ensures .0) (r .create-synthetic-rgb-by-mode-and-strategy .ensures .1)
 
 pub quicklook-compose-spec : {M : Type 1} → statement M
 quicklook-compose-spec =
     tie.close
     (tie.spec
-    mode-of-requires
-    enum-known-mode
-    enum-told
+    (λ c κs. search needs)
+    (λ c. search needs)
+    (λ c. search needs)
     returns
-    strategy-of-requires
-    enum-known-strategy
-    enum-told-2
+    (λ c κs. search needs)
+    (λ c. search needs)
+    (λ c. search needs)
     returns-2
     create-synthetic-rgb-by-mode-and-strategy-requires
-    number-of-requires
-    same-length
+    (λ c κs. search needs)
+    (λ c. search needs)
     returns-3)

@@ -4,13 +4,7 @@ use Rattle.synthetic_rgb.proofs.blue.blue_at.Statement.{statement}
 use Rattle.synthetic_rgb.proofs.blue.blue_at.Tie as tie
 
 -- src/blue.rt:67:8
-is-dark-requires : tie.Need-is-dark-requires
-is-dark-requires c κs = search needs
-
 -- src/blue.rt:67:43
-cast-result : tie.Need-cast-result
-cast-result c = search needs
-
 -- src/blue.rt:63:1
 returns : tie.Need-returns
 returns c = rw (← c .before .is-dark .ensures, c .if1 .taken)
@@ -20,4 +14,4 @@ returns-2 : tie.Need-returns-2
 returns-2 c = rw (← c .before .is-dark .ensures, c .if1 .left)
 
 pub blue-at-spec : {M : Type 1} → statement M
-blue-at-spec = tie.close (tie.spec is-dark-requires cast-result returns returns-2)
+blue-at-spec = tie.close (tie.spec (λ c κs. search needs) (λ c. search needs) returns returns-2)

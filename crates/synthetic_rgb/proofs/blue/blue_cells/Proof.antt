@@ -10,7 +10,7 @@ use lib.ListN.{length, getD, length-set}
 use Rattle.lists.proofs.Stored.{stored}
 use Rattle.colour_tables.specs.Tables.{Rank}
 use Rattle.synthetic_rgb.specs.declared.Composition.{Composition}
-use Rattle.synthetic_rgb.specs.Palette.{redOf, greenOf, blueOf, epsilonOf, Reached}
+use Rattle.synthetic_rgb.specs.Palette.{redOf, greenOf, blueOf, epsilon, Reached}
 use Rattle.synthetic_rgb.proofs.Rules.{reds-rise, reached-more, rank-reached, reached-first, blue-is}
 use borrow.Author.Needs.{needs}
 use Rattle.synthetic_rgb.proofs.blue.blue_cells.Statement.{statement}
@@ -18,11 +18,11 @@ use Rattle.synthetic_rgb.proofs.blue.blue_cells.Tie as tie
 
 -- within a row, the pair before reaches the place
 abbrev Placed : Composition → List ℕ → ℕ → ℕ → Type 0
-Placed kind t i place = 0 < i % 256 → Reached t (redOf kind (i % 256 - 1) + epsilonOf kind) (greenOf kind (i / 256) + epsilonOf kind) place
+Placed kind t i place = 0 < i % 256 → Reached t (redOf kind (i % 256 - 1) + epsilon kind) (greenOf kind (i / 256) + epsilon kind) place
 
 -- so does the pair itself, or place 0
 started : (kind : Composition) (t : List ℕ) (i place : ℕ) → 2 ≤ length t → Placed kind t i place → (v : ℕ) → v ≡ i % 256 →
-    Reached t (redOf kind (i % 256) + epsilonOf kind) (greenOf kind (i / 256) + epsilonOf kind) (cond (eqb v 0) 0 place)
+    Reached t (redOf kind (i % 256) + epsilon kind) (greenOf kind (i / 256) + epsilon kind) (cond (eqb v 0) 0 place)
 started kind t i place l h zero e = reached-first t _ _ l
 started kind t i place l h (suc v) e =
     let m : redOf kind (i % 256 - 1) ≤ redOf kind (i % 256) = reds-rise kind (omega arith) in
@@ -38,15 +38,6 @@ abbrev μ-loop : tie.MeasureT-loop
 loop-holds : tie.Need-loop-holds Inv-loop μ-loop
 loop-holds c = (omega arith, omega arith, λ p. absurd (omega arith), λ k h. absurd (omega arith))
 
-start-requires : tie.Need-start-requires Inv-loop μ-loop
-start-requires c κs = search needs
-
-element-copy-out-place-from : tie.Need-element-copy-out-place-from Inv-loop μ-loop
-element-copy-out-place-from c = search needs
-
-element-copy-out-place-from-2 : tie.Need-element-copy-out-place-from-2 Inv-loop μ-loop
-element-copy-out-place-from-2 c = search needs
-
 place-from-requires : tie.Need-place-from-requires Inv-loop μ-loop
 place-from-requires c κs =
     let l = c .before .before .before .before .loop in
@@ -54,24 +45,6 @@ place-from-requires c κs =
     let r = s .pre .0 .reds .right (l .i % 256) (omega arith) in
     let g = s .pre .0 .greens .right (l .i / 256) (omega arith) in
     rw (r, g, c .before .before .start .ensures) (started (s .args .kind) (s .args .thresholds .now) (l .i) (l .place) (s .pre .0 .ratios .least) (l .inv .2) (l .i % 256) refl)
-
-cast-blue-at : tie.Need-cast-blue-at Inv-loop μ-loop
-cast-blue-at c = search needs
-
-cast-blue-at-2 : tie.Need-cast-blue-at-2 Inv-loop μ-loop
-cast-blue-at-2 c = search needs
-
-blue-at-requires : tie.Need-blue-at-requires Inv-loop μ-loop
-blue-at-requires c κs = search needs
-
-slice-write-cells : tie.Need-slice-write-cells Inv-loop μ-loop
-slice-write-cells c = search needs
-
-add-i : tie.Need-add-i Inv-loop μ-loop
-add-i c = search needs
-
-loop-less : tie.Need-loop-less Inv-loop μ-loop
-loop-less c = search needs
 
 loop-again : tie.Need-loop-again Inv-loop μ-loop
 loop-again c =
@@ -81,7 +54,7 @@ loop-again c =
     let t = s .args .thresholds .now in
     let r = s .pre .0 .reds .right (l .i % 256) (omega arith) in
     let g = s .pre .0 .greens .right (l .i / 256) (omega arith) in
-    let rank : Rank t (redOf k (l .i % 256) + epsilonOf k) (greenOf k (l .i / 256) + epsilonOf k) (c .before .place-from .result) = rw (r, g) at (c .before .place-from .ensures) in
+    let rank : Rank t (redOf k (l .i % 256) + epsilon k) (greenOf k (l .i / 256) + epsilon k) (c .before .place-from .result) = rw (r, g) at (c .before .place-from .ensures) in
     (omega arith, simp length-set (omega arith),
      λ p.
        let e1 : (l .i + 1) % 256 - 1 ≡ l .i % 256 = omega arith in
@@ -89,9 +62,6 @@ loop-again c =
        rw (e1, e2) (rank-reached rank),
      stored (λ (j : ℕ) (b : ℕ). b ≡ blueOf k (j % 256) (j / 256)) (l .cells) (l .i) (c .blue-at .result) (omega arith) (l .inv .3)
      (c .blue-at .ensures ∙ blue-is k t (l .i % 256) (l .i / 256) (c .before .place-from .result) (s .pre .0 .ratios) rank))
-
-same-length : tie.Need-same-length Inv-loop μ-loop
-same-length c = search needs
 
 returns : tie.Need-returns Inv-loop μ-loop
 returns c =
@@ -111,16 +81,16 @@ blue-cells-spec =
     Inv-loop
     μ-loop
     loop-holds
-    start-requires
-    element-copy-out-place-from
-    element-copy-out-place-from-2
+    (λ c κs. search needs)
+    (λ c. search needs)
+    (λ c. search needs)
     place-from-requires
-    cast-blue-at
-    cast-blue-at-2
-    blue-at-requires
-    slice-write-cells
-    add-i
-    loop-less
+    (λ c. search needs)
+    (λ c. search needs)
+    (λ c κs. search needs)
+    (λ c. search needs)
+    (λ c. search needs)
+    (λ c. search needs)
     loop-again
-    same-length
+    (λ c. search needs)
     returns)

@@ -5,13 +5,7 @@ use Rattle.synthetic_rgb.proofs.blue.is_dark.Statement.{statement}
 use Rattle.synthetic_rgb.proofs.blue.is_dark.Tie as tie
 
 -- src/blue.rt:47:31
-enum-told : tie.Need-enum-told
-enum-told c = search needs
-
 -- src/blue.rt:48:33
-enum-known-kind : tie.Need-enum-known-kind
-enum-known-kind c = search needs
-
 -- src/blue.rt:43:1
 returns : tie.Need-returns
 returns c = rw (c .enum-told .given .1)
@@ -29,4 +23,4 @@ returns-3 c =
     rw (c .before .before .kind .given .1, lt-leb (a .v1) _ (c .if1 .left))
 
 pub is-dark-spec : {M : Type 1} → statement M
-is-dark-spec = tie.close (tie.spec enum-told enum-known-kind returns returns-2 returns-3)
+is-dark-spec = tie.close (tie.spec (λ c. search needs) (λ c. search needs) returns returns-2 returns-3)

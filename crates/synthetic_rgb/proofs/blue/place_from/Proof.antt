@@ -3,15 +3,6 @@ use borrow.Author.Needs.{needs}
 use Rattle.synthetic_rgb.proofs.blue.place_from.Statement.{statement}
 use Rattle.synthetic_rgb.proofs.blue.place_from.Tie as tie
 
-epsilon-requires : tie.Need-epsilon-requires
-epsilon-requires c κs = search needs
-
-add-rank-from : tie.Need-add-rank-from
-add-rank-from c = search needs
-
-add-rank-from-2 : tie.Need-add-rank-from-2
-add-rank-from-2 c = search needs
-
 rank-from-requires : tie.Need-rank-from-requires
 rank-from-requires c κs = (search needs, search needs, rw (c .epsilon .ensures .0) (c .before .before .pre))
 
@@ -20,4 +11,4 @@ returns c = rw (c .before .epsilon .ensures .0) at (c .rank-from .ensures)
 
 pub place-from-spec : {M : Type 1} → statement M
 place-from-spec =
-    tie.close (tie.spec epsilon-requires add-rank-from add-rank-from-2 rank-from-requires returns)
+    tie.close (tie.spec (λ c κs. search needs) (λ c. search needs) (λ c. search needs) rank-from-requires returns)

@@ -19,45 +19,6 @@ Inv-loop thresholds r g from k₀ k =
 abbrev μ-loop : tie.MeasureT-loop
 μ-loop thresholds r g from k₀ k = length thresholds - k
 
-loop-holds : tie.Need-loop-holds Inv-loop μ-loop
-loop-holds c = search needs
-
-mul-loop : tie.Need-mul-loop Inv-loop μ-loop
-mul-loop c = search needs
-
-add-loop : tie.Need-add-loop Inv-loop μ-loop
-add-loop c = search needs
-
-mul-wide-u16 : tie.Need-mul-wide-u16 Inv-loop μ-loop
-mul-wide-u16 c = search needs
-
-add-wide-u16 : tie.Need-add-wide-u16 Inv-loop μ-loop
-add-wide-u16 c = search needs
-
-mul-wide-u16-2 : tie.Need-mul-wide-u16-2 Inv-loop μ-loop
-mul-wide-u16-2 c = search needs
-
-shared-slice-read-wide-u16 : tie.Need-shared-slice-read-wide-u16 Inv-loop μ-loop
-shared-slice-read-wide-u16 c = search needs
-
-wide-u16-requires : tie.Need-wide-u16-requires Inv-loop μ-loop
-wide-u16-requires c κs = search needs
-
-mul-wide-u16-3 : tie.Need-mul-wide-u16-3 Inv-loop μ-loop
-mul-wide-u16-3 c = search needs
-
-add-wide-u16-2 : tie.Need-add-wide-u16-2 Inv-loop μ-loop
-add-wide-u16-2 c = search needs
-
-mul-wide-u16-4 : tie.Need-mul-wide-u16-4 Inv-loop μ-loop
-mul-wide-u16-4 c = search needs
-
-shared-slice-read-wide-u16-2 : tie.Need-shared-slice-read-wide-u16-2 Inv-loop μ-loop
-shared-slice-read-wide-u16-2 c = search needs
-
-wide-u16-requires-2 : tie.Need-wide-u16-requires-2 Inv-loop μ-loop
-wide-u16-requires-2 c κs = search needs
-
 mul-if1 : tie.Need-mul-if1 Inv-loop μ-loop
 mul-if1 c = record { fits = small (c .wide-u162 .ensures .1) (search needs) }
 
@@ -70,12 +31,6 @@ returns c =
     let n = c .before .before .before .wide-u16 .ensures .0 in
     let l = c .before .before .before .before .before .before .loop in
     record { within = l .inv .within; reaches = l .inv .reaches; misses = λ h. rw (d, n) at (c .if1 .taken) }
-
-add-k : tie.Need-add-k Inv-loop μ-loop
-add-k c = search needs
-
-loop-less : tie.Need-loop-less Inv-loop μ-loop
-loop-less c = search needs
 
 loop-again : tie.Need-loop-again Inv-loop μ-loop
 loop-again c =
@@ -97,23 +52,23 @@ rank-from-spec =
     (tie.spec
     Inv-loop
     μ-loop
-    loop-holds
-    mul-loop
-    add-loop
-    mul-wide-u16
-    add-wide-u16
-    mul-wide-u16-2
-    shared-slice-read-wide-u16
-    wide-u16-requires
-    mul-wide-u16-3
-    add-wide-u16-2
-    mul-wide-u16-4
-    shared-slice-read-wide-u16-2
-    wide-u16-requires-2
+    (λ c. search needs)
+    (λ c. search needs)
+    (λ c. search needs)
+    (λ c. search needs)
+    (λ c. search needs)
+    (λ c. search needs)
+    (λ c. search needs)
+    (λ c κs. search needs)
+    (λ c. search needs)
+    (λ c. search needs)
+    (λ c. search needs)
+    (λ c. search needs)
+    (λ c κs. search needs)
     mul-if1
     mul-if1-2
     returns
-    add-k
-    loop-less
+    (λ c. search needs)
+    (λ c. search needs)
     loop-again
     returns-2)

@@ -18,9 +18,6 @@ count-levels-requires-2 c κs =
     (search needs, search needs,
      λ k. rw (c .before .before .before .count-levels .ensures) (omega (arith, stored-most (s .args .histogram .now) (s .args .band1-data .now) 0 (λ j. omega (arith, s .pre .3 j)) k)))
 
-same-length : tie.Need-same-length
-same-length c = search needs
-
 returns : tie.Need-returns
 returns c =
     let b = c .before .before .before .before .before .before in
@@ -30,4 +27,4 @@ returns c =
 
 pub count-both-spec : {M : Type 1} → statement M
 count-both-spec =
-    tie.close (tie.spec count-levels-requires count-levels-requires-2 same-length returns)
+    tie.close (tie.spec count-levels-requires count-levels-requires-2 (λ c. search needs) returns)

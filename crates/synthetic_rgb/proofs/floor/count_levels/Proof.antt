@@ -16,35 +16,8 @@ Inv-loop band histogram₀ i₀ histogram i =
 abbrev μ-loop : tie.MeasureT-loop
 μ-loop band histogram₀ i₀ histogram i = length band - i
 
-loop-holds : tie.Need-loop-holds Inv-loop μ-loop
-loop-holds c = search needs
-
-shared-slice-read-index : tie.Need-shared-slice-read-index Inv-loop μ-loop
-shared-slice-read-index c = search needs
-
-index-requires : tie.Need-index-requires Inv-loop μ-loop
-index-requires c κs = search needs
-
-mul-n : tie.Need-mul-n Inv-loop μ-loop
-mul-n c = search needs
-
-slice-read-n : tie.Need-slice-read-n Inv-loop μ-loop
-slice-read-n c = search needs
-
 add-histogram : tie.Need-add-histogram Inv-loop μ-loop
 add-histogram c = omega (arith, c .before .before .before .before .loop .inv .2 (c .before .index .result))
-
-mul-histogram : tie.Need-mul-histogram Inv-loop μ-loop
-mul-histogram c = search needs
-
-slice-write-histogram : tie.Need-slice-write-histogram Inv-loop μ-loop
-slice-write-histogram c = search needs
-
-add-i : tie.Need-add-i Inv-loop μ-loop
-add-i c = search needs
-
-loop-less : tie.Need-loop-less Inv-loop μ-loop
-loop-less c = search needs
 
 loop-again : tie.Need-loop-again Inv-loop μ-loop
 loop-again c =
@@ -53,9 +26,6 @@ loop-again c =
     let v = c .before .index in
     (omega arith, simp length-set (omega arith), λ k. omega (arith, added-most (l .histogram) (v .result) (16777216 + l .i) (l .inv .2) k),
      l .inv .3 ∙ stored-step (l .histogram) band (l .i) (omega arith) ∙ ap (λ (b : ℕ). stored (added b (l .histogram)) (drop (l .i + 1) band)) (sym (v .ensures .0)))
-
-same-length : tie.Need-same-length Inv-loop μ-loop
-same-length c = search needs
 
 returns : tie.Need-returns Inv-loop μ-loop
 returns c =
@@ -68,16 +38,16 @@ count-levels-spec =
     (tie.spec
     Inv-loop
     μ-loop
-    loop-holds
-    shared-slice-read-index
-    index-requires
-    mul-n
-    slice-read-n
+    (λ c. search needs)
+    (λ c. search needs)
+    (λ c κs. search needs)
+    (λ c. search needs)
+    (λ c. search needs)
     add-histogram
-    mul-histogram
-    slice-write-histogram
-    add-i
-    loop-less
+    (λ c. search needs)
+    (λ c. search needs)
+    (λ c. search needs)
+    (λ c. search needs)
     loop-again
-    same-length
+    (λ c. search needs)
     returns)

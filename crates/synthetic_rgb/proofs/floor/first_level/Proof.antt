@@ -18,27 +18,6 @@ Inv-loop histogram target before₀ level₀ before level =
 abbrev μ-loop : tie.MeasureT-loop
 μ-loop histogram target before₀ level₀ before level = 256 - level
 
-loop-holds : tie.Need-loop-holds Inv-loop μ-loop
-loop-holds c = search needs
-
-mul-wide-u32 : tie.Need-mul-wide-u32 Inv-loop μ-loop
-mul-wide-u32 c = search needs
-
-shared-slice-read-wide-u32 : tie.Need-shared-slice-read-wide-u32 Inv-loop μ-loop
-shared-slice-read-wide-u32 c = search needs
-
-wide-u32-requires : tie.Need-wide-u32-requires Inv-loop μ-loop
-wide-u32-requires c κs = search needs
-
-add-reached : tie.Need-add-reached Inv-loop μ-loop
-add-reached c = search needs
-
-add-level : tie.Need-add-level Inv-loop μ-loop
-add-level c = search needs
-
-loop-less : tie.Need-loop-less Inv-loop μ-loop
-loop-less c = search needs
-
 loop-again : tie.Need-loop-again Inv-loop μ-loop
 loop-again c =
     let l = c .before .before .before .before .loop in
@@ -72,13 +51,13 @@ first-level-spec =
     (tie.spec
     Inv-loop
     μ-loop
-    loop-holds
-    mul-wide-u32
-    shared-slice-read-wide-u32
-    wide-u32-requires
-    add-reached
-    add-level
-    loop-less
+    (λ c. search needs)
+    (λ c. search needs)
+    (λ c. search needs)
+    (λ c κs. search needs)
+    (λ c. search needs)
+    (λ c. search needs)
+    (λ c. search needs)
     loop-again
     returns
     returns-2)

@@ -5,35 +5,17 @@ use Prim.Native.Nat.{ℕ, _+_, _/_, min}
 use native.Mathlib.Omega.{arith}
 use lib.ListN.{length}
 use Rattle.lists.proofs.Counts.{stored-counts}
-use Rattle.spec.specs.Colour.{firstLevel, floorOf}
+use Rattle.spec.specs.Colour.{firstLevel, floorLevel}
 use Rattle.synthetic_rgb.proofs.Counted.{below-all, below-append, zeros-at}
 use borrow.Author.Needs.{needs}
 use Rattle.synthetic_rgb.proofs.floor.floor_level.Statement.{statement}
 use Rattle.synthetic_rgb.proofs.floor.floor_level.Tie as tie
 
-slice-aggregate-count-both : tie.Need-slice-aggregate-count-both
-slice-aggregate-count-both c = search needs
-
 count-both-requires : tie.Need-count-both-requires
 count-both-requires c κs = (search needs, search needs, search needs, zeros-at 256)
 
-add-total : tie.Need-add-total
-add-total c = search needs
-
-add-target : tie.Need-add-target
-add-target c = search needs
-
-slice-aggregate-first-level : tie.Need-slice-aggregate-first-level
-slice-aggregate-first-level c = search needs
-
-first-level-requires : tie.Need-first-level-requires
-first-level-requires c κs = search needs
-
-cushioned-requires : tie.Need-cushioned-requires
-cushioned-requires c κs = search needs
-
 returns : tie.Need-returns
-unfolding floorOf
+unfolding floorLevel
 returns c =
     let k = c .before .before .before .before .before .before in
     let a = k .before .before .args in
@@ -48,11 +30,11 @@ pub floor-level-spec : {M : Type 1} → statement M
 floor-level-spec =
     tie.close
     (tie.spec
-    slice-aggregate-count-both
+    (λ c. search needs)
     count-both-requires
-    add-total
-    add-target
-    slice-aggregate-first-level
-    first-level-requires
-    cushioned-requires
+    (λ c. search needs)
+    (λ c. search needs)
+    (λ c. search needs)
+    (λ c κs. search needs)
+    (λ c κs. search needs)
     returns)

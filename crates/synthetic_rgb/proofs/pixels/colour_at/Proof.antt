@@ -5,24 +5,6 @@ use borrow.Author.Needs.{needs}
 use Rattle.synthetic_rgb.proofs.pixels.colour_at.Statement.{statement}
 use Rattle.synthetic_rgb.proofs.pixels.colour_at.Tie as tie
 
-index-requires : tie.Need-index-requires
-index-requires c κs = search needs
-
-index-requires-2 : tie.Need-index-requires-2
-index-requires-2 c κs = search needs
-
-element-copy-out-r : tie.Need-element-copy-out-r
-element-copy-out-r c = search needs
-
-element-copy-out-g : tie.Need-element-copy-out-g
-element-copy-out-g c = search needs
-
-place-from-requires : tie.Need-place-from-requires
-place-from-requires c κs = search needs
-
-blue-at-requires : tie.Need-blue-at-requires
-blue-at-requires c κs = search needs
-
 returns : tie.Need-returns
 returns c =
     let a = c .before .before .before .before .before .before .before .args in
@@ -37,10 +19,10 @@ pub colour-at-spec : {M : Type 1} → statement M
 colour-at-spec =
     tie.close
     (tie.spec
-    index-requires
-    index-requires-2
-    element-copy-out-r
-    element-copy-out-g
-    place-from-requires
-    blue-at-requires
+    (λ c κs. search needs)
+    (λ c κs. search needs)
+    (λ c. search needs)
+    (λ c. search needs)
+    (λ c κs. search needs)
+    (λ c κs. search needs)
     returns)

@@ -1,18 +1,12 @@
--- `autoscale::paint::value_u16` meets its contract. Assumes nothing.
+-- `autoscale::paint::value_of_u16` meets its contract. Assumes nothing.
 use mathlib.Core.Path.{ap}
 use native.Mathlib.Omega.{arith}
 use lib.Ieee.{binary64, mul, toUnsigned}
 use Rattle.spec.specs.Value.{full16, valueOf}
 use Rattle.autoscale.proofs.Painting.{small16, cut16}
 use borrow.Author.Needs.{needs}
-use Rattle.autoscale.proofs.paint.value_u16.Statement.{statement}
-use Rattle.autoscale.proofs.paint.value_u16.Tie as tie
-
-normalized-requires : tie.Need-normalized-requires
-normalized-requires c κs = search needs
-
-clamp-f64-requires : tie.Need-clamp-f64-requires
-clamp-f64-requires c κs = search needs
+use Rattle.autoscale.proofs.paint.value_of_u16.Statement.{statement}
+use Rattle.autoscale.proofs.paint.value_of_u16.Tie as tie
 
 trunc-small-requires : tie.Need-trunc-small-requires
 trunc-small-requires c κs = rw (c .clamp-f64 .ensures) (small16 _)
@@ -24,5 +18,5 @@ returns : tie.Need-returns
 unfolding valueOf
 returns c = cc
 
-pub value-u16-spec : {M : Type 1} → statement M
-value-u16-spec = tie.close (tie.spec normalized-requires clamp-f64-requires trunc-small-requires cast-result returns)
+pub value-of-u16-spec : {M : Type 1} → statement M
+value-of-u16-spec = tie.close (tie.spec (λ c κs. search needs) (λ c κs. search needs) trunc-small-requires cast-result returns)
