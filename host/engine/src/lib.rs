@@ -114,7 +114,8 @@ pub struct Band<'a> {
     pub valid_mask: &'a [u8],
 }
 
-mod c {
+/// The functions of quicklook.h, for tests that lend what the bindings would not.
+pub mod c {
     extern "C" {
         pub fn quicklook_marks(processed: *const f32, processed_len: usize, valid_mask: *mut u8, valid_mask_len: usize) -> u8;
         pub fn quicklook_statistics(

@@ -1,4 +1,4 @@
-//! Writes the vectors for replay, or the worked scenes, to a folder. Everything follows from one fixed seed.
+//! Writes the vectors for replay to their places in a repository, or the worked scenes to a folder. Everything follows from one fixed seed.
 mod bands;
 mod beside;
 mod calls;
@@ -10,7 +10,7 @@ mod rng;
 mod scenes;
 mod tiles;
 
-use std::path::Path;
+use std::path::{Path, PathBuf};
 use std::{env, fs, io, process};
 
 use record::Part;
@@ -37,11 +37,21 @@ fn parts() -> Vec<Part> {
     ]
 }
 
-fn write(folder: &Path) -> io::Result<()> {
-    fs::create_dir_all(folder)?;
+/// The file of a part in the repository: what no call of the archive reaches is beside the program `vectors`, the calls beside the tests.
+fn file(repository: &Path, part: &Part) -> PathBuf {
+    let folder = match part.name {
+        "numeric" | "clahe" => "crates/vectors/data",
+        _ => "tests/vectors",
+    };
+    repository.join(folder).join(part.name).with_extension("bin")
+}
+
+fn write(repository: &Path) -> io::Result<()> {
     let (mut records, mut bytes) = (0, 0);
     for part in parts() {
-        fs::write(folder.join(part.name).with_extension("bin"), &part.bytes)?;
+        let file = file(repository, &part);
+        fs::create_dir_all(file.parent().unwrap())?;
+        fs::write(file, &part.bytes)?;
         println!("{:10} {:6} records {:5} refused {:8} bytes", part.name, part.records(), part.refused, part.bytes.len());
         records += part.records();
         bytes += part.bytes.len();
@@ -54,9 +64,9 @@ fn main() -> io::Result<()> {
     let arguments: Vec<String> = env::args().skip(1).collect();
     match arguments.iter().map(String::as_str).collect::<Vec<_>>()[..] {
         ["scenes", folder] => scenes::write(Path::new(folder), SEED),
-        [folder] => write(Path::new(folder)),
+        [repository] => write(Path::new(repository)),
         _ => {
-            eprintln!("usage: vectors FOLDER, or vectors scenes FOLDER");
+            eprintln!("usage: vectors REPOSITORY, or vectors scenes FOLDER");
             process::exit(2)
         }
     }
@@ -64,20 +74,17 @@ fn main() -> io::Result<()> {
 
 #[cfg(test)]
 mod tests {
-    use std::path::PathBuf;
-
     use super::*;
 
-    fn in_repository(folder: &str) -> PathBuf {
-        Path::new(env!("CARGO_MANIFEST_DIR")).join("../..").join(folder)
+    fn repository() -> PathBuf {
+        Path::new(env!("CARGO_MANIFEST_DIR")).join("../..")
     }
 
-    /// The files in the repository's crates/vectors/data are what this program writes.
+    /// The files in the repository's crates/vectors/data and tests/vectors are what this program writes.
     #[test]
     fn stored_sample_is_written_by_this_program() {
-        let folder = in_repository("crates/vectors/data");
         for part in parts() {
-            let stored = fs::read(folder.join(part.name).with_extension("bin")).unwrap();
+            let stored = fs::read(file(&repository(), &part)).unwrap();
             assert!(stored == part.bytes, "{}.bin", part.name);
         }
     }
@@ -85,7 +92,7 @@ mod tests {
     /// The proofs of the crate `scenes` are what this program writes.
     #[test]
     fn worked_scenes_are_written_by_this_program() {
-        let folder = in_repository("crates/scenes/proofs");
+        let folder = repository().join("crates/scenes/proofs");
         for (name, text) in scenes::files(SEED) {
             let stored = fs::read_to_string(folder.join(&name)).unwrap();
             assert!(stored == text, "{name}");
