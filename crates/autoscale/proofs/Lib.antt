@@ -3,4 +3,3 @@ pub mod Answers
 pub mod Unread
 pub mod Windows
 pub mod Limits
-pub mod Greys

@@ -1,5 +1,5 @@
 -- The painting of a band, a pixel at a time. Assumes nothing.
-use mathlib.Core.Path.{_≡_, refl, sym, ap, _∙_}
+use mathlib.Core.Path.{_≡_, refl, sym, ap, _∙_, subst}
 use mathlib.Core.Bool.{cond}
 use mathlib.Core.List.{List, [], _∷_, _++_}
 use Prim.Native.Nat.{ℕ, zero, suc, _+_, _≤_, _<_, min, max}
@@ -18,36 +18,26 @@ use Rattle.spec.specs.Value.{full8, full16, valueOf, paint}
 use Rattle.numeric.proofs.Small.{clampFloat-small, clampFloat-cut}
 use Rattle.raster.proofs.Bands.{drop-pixels}
 
--- ---- one value: what is cut lies within 0..255 or 0..65535
-zero-full8 : T (le zero64 full8)
-unfolding ofBits le
-zero-full8 = tt
+-- ---- one value: what is cut lies within 0..full, and full is at most 65535
+pub record Full (full : Float) (most : ℕ) : Type 0 where
+  pub least : T (le zero64 full)
+  pub within : T (le full full16)
+  pub whole : toUnsigned 64 full ≡ most
 
-zero-full16 : T (le zero64 full16)
-unfolding ofBits le
-zero-full16 = tt
+pub full-8 : Full full8 255
+unfolding ofBits le toUnsigned
+full-8 = record { least = tt; within = tt; whole = refl }
 
-full8-full16 : T (le full8 full16)
-unfolding ofBits le
-full8-full16 = tt
+pub full-16 : Full full16 65535
+unfolding ofBits le toUnsigned
+full-16 = record { least = tt; within = tt; whole = refl }
 
-full16-full16 : T (le full16 full16)
-unfolding ofBits le
-full16-full16 = tt
+module _ {full : Float} {most : ℕ} (f : Full full most) (x : Float) where
+  pub small : T (le zero64 (clampFloat zero64 full x)) × T (le (clampFloat zero64 full x) full16)
+  small = clampFloat-small full x (f .least) (f .within)
 
-pub small8 : (x : Float) → T (le zero64 (clampFloat zero64 full8 x)) × T (le (clampFloat zero64 full8 x) full16)
-small8 x = clampFloat-small full8 x zero-full8 full8-full16
-
-pub small16 : (x : Float) → T (le zero64 (clampFloat zero64 full16 x)) × T (le (clampFloat zero64 full16 x) full16)
-small16 x = clampFloat-small full16 x zero-full16 full16-full16
-
-pub cut8 : (x : Float) → toUnsigned 64 (clampFloat zero64 full8 x) ≤ 255
-unfolding toUnsigned ofBits
-cut8 x = clampFloat-cut full8 x zero-full8
-
-pub cut16 : (x : Float) → toUnsigned 64 (clampFloat zero64 full16 x) ≤ 65535
-unfolding toUnsigned ofBits
-cut16 x = clampFloat-cut full16 x zero-full16
+  pub cut : toUnsigned 64 (clampFloat zero64 full x) ≤ most
+  cut = subst (λ (n : ℕ). toUnsigned 64 (clampFloat zero64 full x) ≤ n) (f .whole) (clampFloat-cut full x (f .least))
 
 -- ---- one pixel
 pub paint-pixel : (full low high range : Float) (m : ℕ) (v : Float) → cond (eqb m 0) 0 (valueOf full low high range v) ≡ paint full low high range (pixel m v)

@@ -33,7 +33,7 @@ fn strategy_pass(strategy: AutoscaleStrategy, db: &[f64], valid_mask: &[u8]) -> 
 }
 
 // The statistics that the strategy reads, of a band whose sides, lengths and marks are accepted.
-pub fn band_stats(strategy: AutoscaleStrategy, db: &[f64], valid_mask: &[u8]) -> StatisticsAnswer
+fn band_stats(strategy: AutoscaleStrategy, db: &[f64], valid_mask: &[u8]) -> StatisticsAnswer
     requires { ⌜ (length (now «valid_mask») ≡ length (now db)) × (length (now db) < 2 ^ 32) ⌝ }
     ensures { λ r. ⌜ r ≡ bandStats strategy (pixels (now («valid_mask» .entry)) (now (db .entry))) ⌝ }
 {

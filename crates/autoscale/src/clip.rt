@@ -3,8 +3,6 @@ use types::AutoscaleStrategy;
 use types::Clip;
 use types::HistogramStats;
 ghost use mathlib.Core.Path.{_≡_};
-ghost use mathlib.Core.Bool.{cond};
-ghost use Rattle.spec.specs.Strategies.{isTamed};
 ghost use Rattle.spec.specs.Window as Window;
 
 fn between(low: f64, high: f64, gamma: f64) -> Clip
@@ -61,7 +59,7 @@ fn normal_clip(stats: HistogramStats) -> Clip
 }
 
 // Standard, as `autoscale_db_image` decides it.
-pub fn standard_clip(stats: HistogramStats) -> Clip
+fn standard_clip(stats: HistogramStats) -> Clip
     ensures { λ r. ⌜ r ≡ Window.standardClip stats ⌝ }
 {
     let dynamic_range = stats.max_db - stats.min_db;
@@ -78,7 +76,7 @@ pub fn standard_clip(stats: HistogramStats) -> Clip
     normal_clip(stats)
 }
 
-pub fn robust_clip(stats: HistogramStats) -> Clip
+fn robust_clip(stats: HistogramStats) -> Clip
     ensures { λ r. ⌜ r ≡ Window.robustClip stats ⌝ }
 {
     let iqr = stats.p75 - stats.p25;
@@ -105,7 +103,7 @@ fn tail_heaviness(stats: HistogramStats) -> f64
 }
 
 // By skew, then by tail.
-pub fn adaptive_clip(stats: HistogramStats) -> Clip
+fn adaptive_clip(stats: HistogramStats) -> Clip
     ensures { λ r. ⌜ r ≡ Window.adaptiveClip stats ⌝ }
 {
     let skew = skew_factor(stats);
@@ -122,7 +120,7 @@ pub fn adaptive_clip(stats: HistogramStats) -> Clip
 }
 
 // What a strategy decides for the window and grey calls.
-pub fn choose_clip(strategy: AutoscaleStrategy, stats: HistogramStats) -> Clip
+pub(crate) fn choose_clip(strategy: AutoscaleStrategy, stats: HistogramStats) -> Clip
     ensures { λ r. ⌜ r ≡ Window.chooseClip strategy stats ⌝ }
 {
     match strategy {
@@ -137,7 +135,7 @@ pub fn choose_clip(strategy: AutoscaleStrategy, stats: HistogramStats) -> Clip
 }
 
 // Tamed on the picture path, as `autoscale_db_image_tamed_synrgb_u8` decides it.
-pub fn tamed_clip(is_copol: bool, stats: HistogramStats) -> Clip
+fn tamed_clip(is_copol: bool, stats: HistogramStats) -> Clip
     ensures { λ r. ⌜ r ≡ Window.tamedClip «is_copol» stats ⌝ }
 {
     if is_copol {
@@ -147,8 +145,8 @@ pub fn tamed_clip(is_copol: bool, stats: HistogramStats) -> Clip
 }
 
 // What a strategy decides for a picture.
-pub fn picture_clip(strategy: AutoscaleStrategy, is_copol: bool, stats: HistogramStats) -> Clip
-    ensures { λ r. ⌜ r ≡ cond (isTamed strategy) (Window.tamedClip «is_copol» stats) (Window.chooseClip strategy stats) ⌝ }
+pub(crate) fn picture_clip(strategy: AutoscaleStrategy, is_copol: bool, stats: HistogramStats) -> Clip
+    ensures { λ r. ⌜ r ≡ Window.pictureClip strategy «is_copol» stats ⌝ }
 {
     if let AutoscaleStrategy::Tamed = strategy {
         return tamed_clip(is_copol, stats);

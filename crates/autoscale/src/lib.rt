@@ -1,30 +1,25 @@
 // The window of a band from its statistics, by strategy, and the painting of a band from its window, outside Clahe.
 pub mod band;
-pub mod clip;
-pub mod paint;
+mod clip;
+mod paint;
 
 use types::AutoscaleStrategy;
 use types::Clip;
 use types::HistogramStats;
-use types::Reply;
 use types::WindowAnswer;
+use types::WindowFloats;
 ghost use mathlib.Core.Path.{_≡_};
-ghost use mathlib.Core.Bool.{cond};
-ghost use lib.Dec.{eqb};
-ghost use lib.Ieee.{eq};
+ghost use mathlib.Core.Bool.{true};
 ghost use lib.ListN.{length};
-ghost use Rattle.types.specs.declared.WindowAnswer.the-variants.{Blank};
-ghost use Rattle.spec.specs.Answer.{number, replyNumber, after};
-ghost use Rattle.spec.specs.Floats.{one64};
 ghost use Rattle.spec.specs.Pixels.{pixels};
 ghost use Rattle.spec.specs.Stretch as Stretch;
 ghost use Rattle.spec.specs.Value.{full8, full16};
 ghost use Rattle.spec.specs.Window as Window;
-ghost use Rattle.autoscale.specs.Painted.{plainValues, leaving, painting};
+ghost use Rattle.autoscale.specs.Painted.{plainValues, opens};
 
 // A clip with its range as an answer, blank without a valid pixel.
 fn open_window(valid_count: usize, clip: Clip) -> WindowAnswer
-    ensures { λ r. ⌜ r ≡ cond (eqb «valid_count» 0) Blank (Window.opened clip) ⌝ }
+    ensures { λ r. ⌜ r ≡ Window.openWindow «valid_count» clip ⌝ }
 {
     if valid_count == 0 {
         return WindowAnswer::Blank;
@@ -40,14 +35,14 @@ fn open_window(valid_count: usize, clip: Clip) -> WindowAnswer
 }
 
 // The window of a band with these statistics.
-pub fn window_of(strategy: AutoscaleStrategy, stats: HistogramStats) -> WindowAnswer
+pub(crate) fn window_of(strategy: AutoscaleStrategy, stats: HistogramStats) -> WindowAnswer
     ensures { λ r. ⌜ r ≡ Window.windowOf strategy stats ⌝ }
 {
     open_window(stats.valid_count, clip::choose_clip(strategy, stats))
 }
 
 // The window that a picture paints such a band with.
-pub fn picture_window(
+pub(crate) fn picture_window(
     strategy: AutoscaleStrategy,
     is_copol: bool,
     stats: HistogramStats,
@@ -77,13 +72,6 @@ pub fn autoscale_window(
     band::band_window(strategy, db, valid_mask)
 }
 
-// Whether painting starts from a window of this gamma.
-pub fn is_painted(gamma: f64) -> bool
-    ensures { λ r. ⌜ r ≡ eq gamma one64 ⌝ }
-{
-    gamma == 1.0
-}
-
 // Whether a window's gamma is refused with 6.
 pub fn gamma_refused(window: WindowAnswer) -> bool
     ensures { λ r. ⌜ r ≡ Window.gammaRefused window ⌝ }
@@ -97,42 +85,13 @@ pub fn gamma_refused(window: WindowAnswer) -> bool
     else {
         return false;
     };
-    !is_painted(gamma)
+    gamma != 1.0
 }
 
-// A refusal leaves the band as it is, a blank window gives zeros.
-fn leave_u8(window: WindowAnswer, out: &mut [u8]) -> Reply
-    ensures { λ r. ⌜ replyNumber r ≡ number (leaving window (now (out .entry))) ⌝ }
-    ensures { λ _. ⌜ now (out .exit) ≡ after (λ l. l) (leaving window (now (out .entry))) (now (out .entry)) ⌝ }
-{
-    if let WindowAnswer::Refused(k) = window {
-        return Reply::Refused(k);
-    }
-    paint::clear_u8(out);
-    Reply::Done
-}
-
-fn leave_u16(window: WindowAnswer, out: &mut [u16]) -> Reply
-    ensures { λ r. ⌜ replyNumber r ≡ number (leaving window (now (out .entry))) ⌝ }
-    ensures { λ _. ⌜ now (out .exit) ≡ after (λ l. l) (leaving window (now (out .entry))) (now (out .entry)) ⌝ }
-{
-    if let WindowAnswer::Refused(k) = window {
-        return Reply::Refused(k);
-    }
-    paint::clear_u16(out);
-    Reply::Done
-}
-
-// A band at 8 bits from its window, outside Clahe: painted, then stretched between the least and the greatest of all bytes.
-pub fn autoscale_db_image_u8(
-    db: &[f64],
-    valid_mask: &[u8],
-    window: WindowAnswer,
-    out: &mut [u8],
-) -> Reply
-    requires { ⌜ length (now db) ≡ length (now out) ⌝ ∗ ⌜ length (now «valid_mask») ≡ length (now out) ⌝ }
-    ensures { λ r. ⌜ replyNumber r ≡ number (painting window (Stretch.stretch (plainValues full8 (pixels (now («valid_mask» .entry)) (now (db .entry))) window))) ⌝ }
-    ensures { λ _. ⌜ now (out .exit) ≡ after (λ l. l) (painting window (Stretch.stretch (plainValues full8 (pixels (now («valid_mask» .entry)) (now (db .entry))) window))) (now (out .entry)) ⌝ }
+// The greys of a band at 8 bits from its window, outside Clahe: painted, then stretched between the least and the greatest of all bytes.
+pub fn plain_greys_u8(db: &[f64], valid_mask: &[u8], window: WindowAnswer, out: &mut [u8])
+    requires { ⌜ length (now db) ≡ length (now out) ⌝ ∗ ⌜ length (now «valid_mask») ≡ length (now out) ⌝ ∗ ⌜ opens window ≡ true ⌝ }
+    ensures { λ _. ⌜ now (out .exit) ≡ Stretch.stretch (plainValues full8 (pixels (now («valid_mask» .entry)) (now (db .entry))) window) ⌝ }
 {
     let WindowAnswer::Window {
         low,
@@ -141,28 +100,19 @@ pub fn autoscale_db_image_u8(
         gamma,
     } = window
     else {
-        return leave_u8(window, out);
+        lists::clear_u8(out);
+        return;
     };
-    if !is_painted(gamma) {
-        return Reply::Refused(6);
-    }
-    let ends = paint::paint_u8(db, valid_mask, low, high, range, out);
+    let ends = paint::paint_u8(db, valid_mask, WindowFloats { low, high, range, gamma }, out);
     let lo = ends.lo;
     let hi = ends.hi;
     stretch::stretch_bytes(out, lo, hi);
-    Reply::Done
 }
 
-// A band at 8 bits from its window, not stretched, as the Tamed picture path has it.
-pub fn autoscale_db_image_tamed_synrgb_u8(
-    db: &[f64],
-    valid_mask: &[u8],
-    window: WindowAnswer,
-    out: &mut [u8],
-) -> Reply
-    requires { ⌜ length (now db) ≡ length (now out) ⌝ ∗ ⌜ length (now «valid_mask») ≡ length (now out) ⌝ }
-    ensures { λ r. ⌜ replyNumber r ≡ number (painting window (plainValues full8 (pixels (now («valid_mask» .entry)) (now (db .entry))) window)) ⌝ }
-    ensures { λ _. ⌜ now (out .exit) ≡ after (λ l. l) (painting window (plainValues full8 (pixels (now («valid_mask» .entry)) (now (db .entry))) window)) (now (out .entry)) ⌝ }
+// The values of a band at 8 bits from its window, not stretched, as the Tamed picture path has it.
+pub fn autoscale_db_image_tamed_synrgb_u8(db: &[f64], valid_mask: &[u8], window: WindowAnswer, out: &mut [u8])
+    requires { ⌜ length (now db) ≡ length (now out) ⌝ ∗ ⌜ length (now «valid_mask») ≡ length (now out) ⌝ ∗ ⌜ opens window ≡ true ⌝ }
+    ensures { λ _. ⌜ now (out .exit) ≡ plainValues full8 (pixels (now («valid_mask» .entry)) (now (db .entry))) window ⌝ }
 {
     let WindowAnswer::Window {
         low,
@@ -171,25 +121,16 @@ pub fn autoscale_db_image_tamed_synrgb_u8(
         gamma,
     } = window
     else {
-        return leave_u8(window, out);
+        lists::clear_u8(out);
+        return;
     };
-    if !is_painted(gamma) {
-        return Reply::Refused(6);
-    }
-    paint::paint_u8(db, valid_mask, low, high, range, out);
-    Reply::Done
+    paint::paint_u8(db, valid_mask, WindowFloats { low, high, range, gamma }, out);
 }
 
-// A band at 16 bits from its window, outside Clahe.
-pub fn autoscale_db_image_u16(
-    db: &[f64],
-    valid_mask: &[u8],
-    window: WindowAnswer,
-    out: &mut [u16],
-) -> Reply
-    requires { ⌜ length (now db) ≡ length (now out) ⌝ ∗ ⌜ length (now «valid_mask») ≡ length (now out) ⌝ }
-    ensures { λ r. ⌜ replyNumber r ≡ number (painting window (plainValues full16 (pixels (now («valid_mask» .entry)) (now (db .entry))) window)) ⌝ }
-    ensures { λ _. ⌜ now (out .exit) ≡ after (λ l. l) (painting window (plainValues full16 (pixels (now («valid_mask» .entry)) (now (db .entry))) window)) (now (out .entry)) ⌝ }
+// The values of a band at 16 bits from its window, outside Clahe.
+pub fn plain_values_u16(db: &[f64], valid_mask: &[u8], window: WindowAnswer, out: &mut [u16])
+    requires { ⌜ length (now db) ≡ length (now out) ⌝ ∗ ⌜ length (now «valid_mask») ≡ length (now out) ⌝ ∗ ⌜ opens window ≡ true ⌝ }
+    ensures { λ _. ⌜ now (out .exit) ≡ plainValues full16 (pixels (now («valid_mask» .entry)) (now (db .entry))) window ⌝ }
 {
     let WindowAnswer::Window {
         low,
@@ -198,11 +139,8 @@ pub fn autoscale_db_image_u16(
         gamma,
     } = window
     else {
-        return leave_u16(window, out);
+        lists::clear_u16(out);
+        return;
     };
-    if !is_painted(gamma) {
-        return Reply::Refused(6);
-    }
-    paint::paint_u16(db, valid_mask, low, high, range, out);
-    Reply::Done
+    paint::paint_u16(db, valid_mask, WindowFloats { low, high, range, gamma }, out);
 }

@@ -1,5 +1,6 @@
 // The painting of valid pixels between the ends of a window, outside Clahe, each float step in the source's order.
 use stretch::Ends;
+use types::WindowFloats;
 ghost use mathlib.Core.Path.{_≡_};
 ghost use mathlib.Core.Bool.{cond};
 ghost use mathlib.Core.List.{map};
@@ -7,28 +8,21 @@ ghost use lib.Dec.{eqb};
 ghost use lib.ListN.{length};
 ghost use Rattle.spec.specs.Lists.{lowest, highest};
 ghost use Rattle.spec.specs.Pixels.{pixels};
-ghost use Rattle.spec.specs.Value.{full8, full16, normalized, valueOf, paint};
-
-// Held to low..high, minus low, over range.
-pub fn normalized(v: f64, low: f64, high: f64, range: f64) -> f64
-    ensures { λ r. ⌜ r ≡ normalized low high range v ⌝ }
-{
-    (numeric::clamp_f64(v, low, high) - low) / range
-}
+ghost use Rattle.spec.specs.Value.{full8, full16, valueOf, paint};
 
 // Times 255, held to 0..255, truncated.
-pub fn value_of_u8(v: f64, low: f64, high: f64, range: f64) -> u8
-    ensures { λ r. ⌜ r ≡ valueOf full8 low high range v ⌝ }
+fn value_of_u8(v: f64, window: WindowFloats) -> u8
+    ensures { λ r. ⌜ r ≡ valueOf full8 (window .low) (window .high) (window .range) v ⌝ }
 {
-    let x = normalized(v, low, high, range) * 255.0;
+    let x = numeric::normalized(v, window.low, window.high, window.range) * 255.0;
     numeric::trunc_small(numeric::clamp_f64(x, 0.0, 255.0)) as u8
 }
 
 // Times 65535, held to 0..65535, truncated.
-pub fn value_of_u16(v: f64, low: f64, high: f64, range: f64) -> u16
-    ensures { λ r. ⌜ r ≡ valueOf full16 low high range v ⌝ }
+fn value_of_u16(v: f64, window: WindowFloats) -> u16
+    ensures { λ r. ⌜ r ≡ valueOf full16 (window .low) (window .high) (window .range) v ⌝ }
 {
-    let x = normalized(v, low, high, range) * 65535.0;
+    let x = numeric::normalized(v, window.low, window.high, window.range) * 65535.0;
     numeric::trunc_small(numeric::clamp_f64(x, 0.0, 65535.0)) as u16
 }
 
@@ -46,23 +40,16 @@ fn masked_u16(mark: u8, value: u16) -> u16
 }
 
 // A band at 8 bits, with the least and the greatest of the bytes.
-pub fn paint_u8(
-    db: &[f64],
-    valid_mask: &[u8],
-    low: f64,
-    high: f64,
-    range: f64,
-    out: &mut [u8],
-) -> Ends
+pub(crate) fn paint_u8(db: &[f64], valid_mask: &[u8], window: WindowFloats, out: &mut [u8]) -> Ends
     requires { ⌜ length (now db) ≡ length (now out) ⌝ ∗ ⌜ length (now «valid_mask») ≡ length (now out) ⌝ }
-    ensures { λ r. ⌜ now (out .exit) ≡ map (paint full8 low high range) (pixels (now («valid_mask» .entry)) (now (db .entry))) ⌝ }
+    ensures { λ r. ⌜ now (out .exit) ≡ map (paint full8 (window .low) (window .high) (window .range)) (pixels (now («valid_mask» .entry)) (now (db .entry))) ⌝ }
     ensures { λ r. ⌜ (r .lo ≡ lowest 65535 (now (out .exit))) × (r .hi ≡ highest 0 (now (out .exit))) ⌝ }
 {
     let mut lo: u16 = 65535;
     let mut hi: u16 = 0;
     let mut i = 0;
     while i < out.len() {
-        let value = value_of_u8(db[i], low, high, range);
+        let value = value_of_u8(db[i], window);
         let x = masked_u8(valid_mask[i], value);
         out[i] = x;
         lo = stretch::min_u16(lo, x as u16);
@@ -73,36 +60,14 @@ pub fn paint_u8(
 }
 
 // A band at 16 bits.
-pub fn paint_u16(db: &[f64], valid_mask: &[u8], low: f64, high: f64, range: f64, out: &mut [u16])
+pub(crate) fn paint_u16(db: &[f64], valid_mask: &[u8], window: WindowFloats, out: &mut [u16])
     requires { ⌜ length (now db) ≡ length (now out) ⌝ ∗ ⌜ length (now «valid_mask») ≡ length (now out) ⌝ }
-    ensures { λ _. ⌜ now (out .exit) ≡ map (paint full16 low high range) (pixels (now («valid_mask» .entry)) (now (db .entry))) ⌝ }
+    ensures { λ _. ⌜ now (out .exit) ≡ map (paint full16 (window .low) (window .high) (window .range)) (pixels (now («valid_mask» .entry)) (now (db .entry))) ⌝ }
 {
     let mut i = 0;
     while i < out.len() {
-        let value = value_of_u16(db[i], low, high, range);
+        let value = value_of_u16(db[i], window);
         out[i] = masked_u16(valid_mask[i], value);
-        i += 1;
-    }
-}
-
-// A blank band at 8 bits.
-pub fn clear_u8(out: &mut [u8])
-    ensures { λ _. ⌜ now (out .exit) ≡ map (λ x. 0) (now (out .entry)) ⌝ }
-{
-    let mut i = 0;
-    while i < out.len() {
-        out[i] = 0;
-        i += 1;
-    }
-}
-
-// A blank band at 16 bits.
-pub fn clear_u16(out: &mut [u16])
-    ensures { λ _. ⌜ now (out .exit) ≡ map (λ x. 0) (now (out .entry)) ⌝ }
-{
-    let mut i = 0;
-    while i < out.len() {
-        out[i] = 0;
         i += 1;
     }
 }

@@ -119,7 +119,7 @@ each-most n x h l =
 
 -- ---- a clipped bin
 
-pub clipped-most : (limit : Float) (h : ℕ) → h < 2 ^ 32 → clipped limit h ≤ h
+clipped-most : (limit : Float) (h : ℕ) → h < 2 ^ 32 → clipped limit h ≤ h
 unfolding clipped
 clipped-most limit h b = go (lt limit (ofCount h)) (λ t. t)
   where
@@ -128,7 +128,7 @@ clipped-most limit h b = go (lt limit (ofCount h)) (λ t. t)
     go false f = omega arith
 
 -- no bin is above the sum
-pub bin-most : (hs : List ℕ) (k : ℕ) → getD hs k 0 ≤ sumOf hs
+bin-most : (hs : List ℕ) (k : ℕ) → getD hs k 0 ≤ sumOf hs
 unfolding sumOf
 bin-most [] k = zero-le
 bin-most (h ∷ hs) zero = omega arith

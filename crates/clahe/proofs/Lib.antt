@@ -10,7 +10,6 @@ pub mod Bounds
 pub mod Rows
 pub mod Tiling
 pub mod Parts
-pub mod Positioned
 pub mod Shades
 pub mod Painted
 pub mod Listed

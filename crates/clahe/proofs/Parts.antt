@@ -6,27 +6,27 @@ use native.Mathlib.Nat.{suc-inj, le-of-suc-le-suc, not-suc-le-zero}
 use native.Mathlib.Omega.{arith}
 use borrow.Author.Count.{below-more}
 use lib.Ieee.{Float, nan}
-use lib.ListN.{length, getD, take, drop, length-map, List·getD-append}
-use lib.Seq.{length-take-le, getD-take, getD-append-add}
+use lib.ListN.{length, getD, take, drop, length-take, length-drop, length-map, List·getD-append}
+use lib.Seq.{length-take-le, getD-take, getD-drop, getD-append-add}
+use Rattle.types.specs.declared.WindowFloats.{WindowFloats}
 use Rattle.spec.specs.Lists.{places}
 use Rattle.clahe.proofs.Cells.{places-length, places-at}
 use Rattle.spec.specs.Pixels.{pixel, pixels}
-use Rattle.spec.specs.Grey.{normalPixel}
-use Rattle.clahe.specs.Band.{band}
+use Rattle.clahe.specs.Band.{normalIn, band}
 
 module _ {A : Type 0} {B : Type 0} (f : A → B) where
-  pub map-take : (n : ℕ) (xs : List A) → map f (take n xs) ≡ take n (map f xs)
+  map-take : (n : ℕ) (xs : List A) → map f (take n xs) ≡ take n (map f xs)
   map-take zero xs = refl
   map-take (suc n) [] = refl
   map-take (suc n) (x ∷ xs) = ap (λ (l : List B). f x ∷ l) (map-take n xs)
 
-  pub map-drop : (n : ℕ) (xs : List A) → map f (drop n xs) ≡ drop n (map f xs)
+  map-drop : (n : ℕ) (xs : List A) → map f (drop n xs) ≡ drop n (map f xs)
   map-drop zero xs = refl
   map-drop (suc n) [] = refl
   map-drop (suc n) (x ∷ xs) = map-drop n xs
 
 module _ {A : Type 0} {B : Type 0} {C : Type 0} (f : A → B → C) where
-  pub zip-take : (n : ℕ) (xs : List A) (ys : List B) → zipWith f (take n xs) (take n ys) ≡ take n (zipWith f xs ys)
+  zip-take : (n : ℕ) (xs : List A) (ys : List B) → zipWith f (take n xs) (take n ys) ≡ take n (zipWith f xs ys)
   unfolding zipWith
   zip-take zero xs ys = refl
   zip-take (suc n) [] ys = refl
@@ -38,7 +38,7 @@ module _ {A : Type 0} {B : Type 0} {C : Type 0} (f : A → B → C) where
   zip-none [] = refl
   zip-none (x ∷ xs) = refl
 
-  pub zip-drop : (n : ℕ) (xs : List A) (ys : List B) → zipWith f (drop n xs) (drop n ys) ≡ drop n (zipWith f xs ys)
+  zip-drop : (n : ℕ) (xs : List A) (ys : List B) → zipWith f (drop n xs) (drop n ys) ≡ drop n (zipWith f xs ys)
   unfolding zipWith
   zip-drop zero xs ys = refl
   zip-drop (suc n) [] ys = refl
@@ -59,18 +59,29 @@ module _ {A : Type 0} {B : Type 0} {C : Type 0} (f : A → B → C) where
   zip-at a b c (x ∷ xs) (y ∷ ys) zero g h = refl
   zip-at a b c (x ∷ xs) (y ∷ ys) (suc k) g h = zip-at a b c xs ys k (le-of-suc-le-suc g) (le-of-suc-le-suc h)
 
--- a part of a band is the band of the parts
-pub band-part : (low high range : Float) (marks : List ℕ) (db : List Float) (a n : ℕ)
-    → band low high range (take n (drop a marks)) (take n (drop a db)) ≡ take n (drop a (band low high range marks db))
-unfolding pixels
-band-part low high range marks db a n =
-    ap (map (normalPixel low high range)) (zip-take pixel n (drop a marks) (drop a db) ∙ ap (take n) (zip-drop pixel a marks db))
-    ∙ map-take (normalPixel low high range) n (drop a (pixels marks db)) ∙ ap (take n) (map-drop (normalPixel low high range) a (pixels marks db))
+-- the n elements from a on, as a slice has them, and a band of them
+abbrev pub part : {A : Type 0} → ℕ → ℕ → List A → List A
+part a n xs = take (a + n - a) (drop a xs)
 
-pub band-between : (low high range : Float) (marks : List ℕ) (db : List Float) (a e n : ℕ) → e - a ≡ n
-    → band low high range (take (e - a) (drop a marks)) (take (e - a) (drop a db)) ≡ take n (drop a (band low high range marks db))
-band-between low high range marks db a e n p =
-    ap (λ (m : ℕ). band low high range (take m (drop a marks)) (take m (drop a db))) p ∙ band-part low high range marks db a n
+pub part-length : {A : Type 0} (a n : ℕ) (xs : List A) → a + n ≤ length xs → length (part a n xs) ≡ n
+part-length a n xs h = simp (length-take, length-drop) (omega arith)
+
+part-is : {A : Type 0} (a n : ℕ) (xs : List A) → part a n xs ≡ take n (drop a xs)
+part-is a n xs = let e : a + n - a ≡ n = omega arith in ap (λ (m : ℕ). take m (drop a xs)) e
+
+pub part-at : {A : Type 0} (a n : ℕ) (d : A) (xs : List A) (k : ℕ) → k < n → getD (part a n xs) k d ≡ getD xs (a + k) d
+part-at a n d xs k h = getD-take (a + n - a) (drop a xs) k d (omega arith) ∙ getD-drop a xs k d
+
+pub parts-fit : (a n m : ℕ) (marks : List ℕ) (db : List Float) → a + n ≤ m → length marks ≡ m → length db ≡ m → n ≤ 4096
+    → (length (part a n marks) ≡ length (part a n db)) × (length (part a n db) ≤ 4096)
+parts-fit a n m marks db h k l b = let e = part-length a n db (omega arith) in (part-length a n marks (omega arith) ∙ sym e, omega arith)
+
+pub band-part : (w : WindowFloats) (marks : List ℕ) (db : List Float) (a n : ℕ) → band w (part a n marks) (part a n db) ≡ take n (drop a (band w marks db))
+unfolding pixels
+band-part w marks db a n =
+    rw (part-is a n marks, part-is a n db)
+    (ap (map (normalIn w)) (zip-take pixel n (drop a marks) (drop a db) ∙ ap (take n) (zip-drop pixel a marks db))
+    ∙ map-take (normalIn w) n (drop a (pixels marks db)) ∙ ap (take n) (map-drop (normalIn w) a (pixels marks db)))
 
 -- ---- a part put back
 

@@ -1,7 +1,6 @@
 -- What is left of the excess once each bin has had its share is at most 256: the source goes round the bins no more than once, as the definition does. Assumes nothing.
 use mathlib.Core.Path.{_≡_, refl, sym, ap, subst, _∙_}
 use mathlib.Core.Bool.{true, false}
-use mathlib.Core.List.{List}
 use Prim.Native.Nat.{ℕ, _+_, _*_, _/_, _^_, _≤_, _<_, zero-le}
 use native.Mathlib.Nat.{add-mul, mul-add, mul-one, mul-assoc, mul-comm, mul-right-comm, mul-pos, mul-le-mul-left, mul-le-mul-right, le-of-mul-le-mul-right, div-mul-le-self, div-le-of-le-mul, lt-mul-div-succ, div-lt-iff-lt-mul}
 use native.Mathlib.Omega.{arith}
@@ -17,6 +16,7 @@ use Rattle.numeric.proofs.Values.{value-finite, value-plus, value-less, count-v
 use Rattle.spec.specs.Floats.{zero64, ofCount, roundAsU64}
 use Rattle.spec.specs.Lists.{sumOf}
 use Rattle.spec.specs.Clahe.{levels64, excess}
+use Rattle.clahe.specs.Limits.{RestOnce}
 use Rattle.clahe.proofs.Bounds.{count-finite, count-le, zero-count, count-back, each-most, excess-bounds}
 
 count-rounds : (n : ℕ) → Rounds binary64 (ofCount n) n 0 1
@@ -146,7 +146,7 @@ module _ (x : Float) (n : ℕ) (b : n ≤ 2 ^ 44) (l : T (le zero64 x)) (h : T (
         mul-assoc 256 (den x) (den g),
       ))
 
-  pub rest-most : roundAsU64 (sub binary64 x given) ≤ 256
+  rest-most : roundAsU64 (sub binary64 x given) ≤ 256
   rest-most =
       let f = x-finite in
       roundAsU64-most (sub binary64 x given)
@@ -154,9 +154,8 @@ module _ (x : Float) (n : ℕ) (b : n ≤ 2 ^ 44) (l : T (le zero64 x)) (h : T (
       (sub-le-both binary64 x given x (ofCount (each * 256)) f given-finite f (count-finite (each * 256) (omega (arith, each-under))) (le-refl' x (number-of-finite x f)) given-above)
       less-count)
 
--- the rest of a tile's excess
-pub tile-rest-most : (limit : Float) → T (le zero64 limit) → (hs : List ℕ) → sumOf hs ≤ 2 ^ 44
-    → let over = excess limit zero64 hs in roundAsU64 (sub binary64 over (mul binary64 (ofCount (toUnsigned 64 (div binary64 over levels64))) levels64)) ≤ 256
-tile-rest-most limit p hs b =
+pub rest-once : RestOnce
+unfolding RestOnce
+rest-once limit p hs b =
     let k = excess-bounds limit p hs (omega arith) in
     rest-most (excess limit zero64 hs) (sumOf hs) b (k .0) (k .1)

@@ -8,6 +8,7 @@ use native.Mathlib.Omega.{arith}
 use lib.Ieee.{Float}
 use lib.ListN.{length, getD, set, drop}
 use lib.Seq.{drop-cons}
+use Rattle.types.specs.declared.WindowFloats.{WindowFloats}
 use Rattle.spec.specs.Lists.{added, stored}
 use Rattle.spec.specs.Pixels.{off, on, pixel, pixels, validOf}
 use Rattle.spec.specs.Grey.{normalPixel}
@@ -53,9 +54,9 @@ stored-append h (x ∷ xs) ys = stored-append (added x h) xs ys
 
 -- ---- one pixel after another
 
-module _ (low high range : Float) (marks : List ℕ) (db : List Float) (h : List ℕ) (i : ℕ) where
+module _ (w : WindowFloats) (marks : List ℕ) (db : List Float) (h : List ℕ) (i : ℕ) where
   abbrev Left : List ℕ → ℕ → List ℕ
-  Left g j = stored g (levels (band low high range (drop j marks) (drop j db)))
+  Left g j = stored g (levels (band w (drop j marks) (drop j db)))
 
   pub row-end : length db ≤ i → length marks ≤ i → Left h i ≡ h
   unfolding stored pixels zipWith validOf
@@ -68,7 +69,7 @@ module _ (low high range : Float) (marks : List ℕ) (db : List Float) (h : List
       drop-of (x ∷ xs) (suc j) l = drop-of xs j (le-of-suc-le-suc l)
 
   module _ (d : Float) (a : i < length db) (b : i < length marks) where
-    pub row-on : (getD marks i 0 ≡ 0 → ⊥) → Left h i ≡ Left (added (levelOf (normalized low high range (getD db i d))) h) (i + 1)
+    pub row-on : (getD marks i 0 ≡ 0 → ⊥) → Left h i ≡ Left (added (levelOf (normalized (w .low) (w .high) (w .range) (getD db i d))) h) (i + 1)
     unfolding stored pixels zipWith validOf normalPixel
     row-on e = rw (add-one i, drop-cons db i d, drop-cons marks i 0, pixel-on (getD marks i 0) (getD db i d) e)
 

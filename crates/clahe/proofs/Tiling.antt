@@ -9,7 +9,7 @@ use lib.ListN.{length, getD, take, drop, replicate, length-take, length-append}
 use Rattle.lists.proofs.Counts.{Below, counts-from-cells, stored-more, counts-sum}
 use Rattle.spec.specs.Lists.{placesFrom, counts, countOf, stored, sumOf}
 use Rattle.spec.specs.Pixels.{Pixel, off, on, validOf}
-use Rattle.spec.specs.Clahe.{tileSide, tileStart, tileSize, tilePixels, tileCounts, levelOf}
+use Rattle.spec.specs.Clahe.{tileStart, tileSize, tilePixels, tileCounts, levelOf}
 use Rattle.clahe.specs.Band.{levels}
 use Rattle.clahe.specs.Limits.{ValidFewer}
 use Rattle.clahe.proofs.Whole.{next-times, times-most}
@@ -22,7 +22,7 @@ module _ (s k : ℕ) where
   unfolding tileSize
   tile-inside r h = omega arith
 
-  pub tile-end : 0 < tileSize s k → tileStart s k + tileSize s k ≤ s
+  tile-end : 0 < tileSize s k → tileStart s k + tileSize s k ≤ s
   unfolding tileSize
   tile-end h = omega arith
 
@@ -30,11 +30,7 @@ module _ (s k : ℕ) where
   unfolding tileSize
   tile-most = omega arith
 
-  pub tile-side-most : tileSize s k ≤ tileSide s
-  unfolding tileSize
-  tile-side-most = omega (arith, next-times k (tileSide s))
-
-pub row-inside : (q rows cols left width : ℕ) → q < rows → left + width ≤ cols → q * cols + left + width ≤ rows * cols
+row-inside : (q rows cols left width : ℕ) → q < rows → left + width ≤ cols → q * cols + left + width ≤ rows * cols
 row-inside q rows cols left width h k = omega (arith, next-times q cols, mul-le-mul-right {m = q + 1} {n = rows} cols (omega arith))
 
 -- a tile's row lies in the raster
@@ -51,16 +47,16 @@ valid-append [] qs = refl
 valid-append (off ∷ ps) qs = valid-append ps qs
 valid-append (on v ∷ ps) qs = ap (λ (l : List Float). v ∷ l) (valid-append ps qs)
 
-pub levels-append : (ps qs : List Pixel) → levels (ps ++ qs) ≡ levels ps ++ levels qs
+levels-append : (ps qs : List Pixel) → levels (ps ++ qs) ≡ levels ps ++ levels qs
 levels-append ps qs = ap (map levelOf) (valid-append ps qs) ∙ map-append levelOf (validOf ps) (validOf qs)
 
-pub levels-below : (ps : List Pixel) → Below 256 (levels ps)
+levels-below : (ps : List Pixel) → Below 256 (levels ps)
 unfolding validOf levelOf
 levels-below [] = tt
 levels-below (off ∷ ps) = levels-below ps
 levels-below (on v ∷ ps) = (omega arith, levels-below ps)
 
-pub levels-fewer : (ps : List Pixel) → length (levels ps) ≤ length ps
+levels-fewer : (ps : List Pixel) → length (levels ps) ≤ length ps
 unfolding validOf
 levels-fewer [] = zero-le
 levels-fewer (off ∷ ps) = omega (arith, levels-fewer ps)

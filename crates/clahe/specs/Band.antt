@@ -4,13 +4,17 @@ use mathlib.Core.Path.{_≡_}
 use mathlib.Core.List.{List, map}
 use lib.ListN.{length}
 use lib.Ieee.{Float}
+use Rattle.types.specs.declared.WindowFloats.{WindowFloats}
 use Rattle.spec.specs.Pixels.{Pixel, pixels, validOf}
 use Rattle.spec.specs.Grey.{normalPixel}
 use Rattle.spec.specs.Clahe.{levelOf}
 
--- the pixels of a band, normalised by a window
-abbrev pub band : Float → Float → Float → List ℕ → List Float → List Pixel
-band low high range marks db = map (normalPixel low high range) (pixels marks db)
+-- a pixel normalised by a window, and the pixels of a band
+abbrev pub normalIn : WindowFloats → Pixel → Pixel
+normalIn w = normalPixel (w .low) (w .high) (w .range)
+
+abbrev pub band : WindowFloats → List ℕ → List Float → List Pixel
+band w marks db = map (normalIn w) (pixels marks db)
 
 -- the levels of the valid pixels, in order
 abbrev pub levels : List Pixel → List ℕ

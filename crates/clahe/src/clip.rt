@@ -11,7 +11,7 @@ ghost use Rattle.spec.specs.Lists.{sumOf};
 ghost use Rattle.spec.specs.Clahe as Clahe;
 
 // `f64 as u32`: the fraction dropped, held to the range, 0 for a NaN.
-pub fn f64_as_u32(x: f64) -> u32
+fn f64_as_u32(x: f64) -> u32
     ensures { λ r. ⌜ r ≡ toUnsigned 32 x ⌝ }
 {
     let n = numeric::f64_as_u64(x);
@@ -27,14 +27,14 @@ pub fn threshold(area: usize) -> f64
 }
 
 // What a bin has above the limit, the fraction kept.
-pub fn above(size: f64, limit: f64) -> f64
+fn above(size: f64, limit: f64) -> f64
     ensures { λ r. ⌜ r ≡ sub binary64 size limit ⌝ }
 {
     size - limit
 }
 
 // The sum with what a bin has above the limit.
-pub fn with_excess(sum: f64, h: u32, limit: f64) -> f64
+fn with_excess(sum: f64, h: u32, limit: f64) -> f64
     ensures { λ r. ⌜ r ≡ cond (lt limit (ofCount h)) (add binary64 sum (sub binary64 (ofCount h) limit)) sum ⌝ }
 {
     let size = h as f64;
@@ -46,7 +46,7 @@ pub fn with_excess(sum: f64, h: u32, limit: f64) -> f64
 }
 
 // What all bins have above the limit.
-pub fn excess(hist: &[u32], limit: f64) -> f64
+fn excess(hist: &[u32], limit: f64) -> f64
     requires { ⌜ length (now hist) ≡ 256 ⌝ }
     ensures { λ r. ⌜ r ≡ Clahe.excess limit zero64 (now (hist .entry)) ⌝ }
 {
@@ -60,7 +60,7 @@ pub fn excess(hist: &[u32], limit: f64) -> f64
 }
 
 // A bin that holds more than the limit becomes the limit, without its fraction.
-pub fn clipped(h: u32, limit: f64) -> u32
+fn clipped(h: u32, limit: f64) -> u32
     ensures { λ r. ⌜ r ≡ Clahe.clipped limit h ⌝ }
 {
     if h as f64 > limit {
@@ -71,7 +71,7 @@ pub fn clipped(h: u32, limit: f64) -> u32
 }
 
 // Each bin clipped.
-pub fn clip_bins(hist: &mut [u32], limit: f64)
+fn clip_bins(hist: &mut [u32], limit: f64)
     requires { ⌜ length (now hist) ≡ 256 ⌝ }
     ensures { λ _. ⌜ now (hist .exit) ≡ map (Clahe.clipped limit) (now (hist .entry)) ⌝ }
 {
@@ -84,21 +84,21 @@ pub fn clip_bins(hist: &mut [u32], limit: f64)
 }
 
 // What each bin gets of the excess.
-pub fn each_of(over: f64) -> u64
+fn each_of(over: f64) -> u64
     ensures { λ r. ⌜ r ≡ toUnsigned 64 (div binary64 over Clahe.levels64) ⌝ }
 {
     numeric::f64_as_u64(over / 256.0)
 }
 
 // What is left of it, rounded.
-pub fn rest_of(over: f64, given: f64) -> u64
+fn rest_of(over: f64, given: f64) -> u64
     ensures { λ r. ⌜ r ≡ roundAsU64 (sub binary64 over given) ⌝ }
 {
     numeric::round_f64_as_u64(over - given)
 }
 
 // A bin's share: `each`, and one more where the bin is among the first `rest`.
-pub fn with_share(h: u32, b: u64, each: u32, rest: u64) -> u32
+fn with_share(h: u32, b: u64, each: u32, rest: u64) -> u32
     requires { ⌜ h + each + 1 < 2 ^ 32 ⌝ }
     ensures { λ r. ⌜ r ≡ h + each + cond (ltb b rest) 1 0 ⌝ }
 {
@@ -106,7 +106,7 @@ pub fn with_share(h: u32, b: u64, each: u32, rest: u64) -> u32
 }
 
 // Each bin with its share.
-pub fn share(hist: &mut [u32], each: u32, rest: u64)
+fn share(hist: &mut [u32], each: u32, rest: u64)
     requires { ⌜ (length (now hist) ≡ 256) × ((k : ℕ) → getD (now hist) k 0 + each + 1 < 2 ^ 32) ⌝ }
     ensures { λ _. ⌜ now (hist .exit) ≡ Clahe.oneByOne rest (map (λ h. h + each) (now (hist .entry))) ⌝ }
 {
@@ -119,7 +119,7 @@ pub fn share(hist: &mut [u32], each: u32, rest: u64)
 }
 
 // A tile's counts after clipping at a limit.
-pub fn clip(hist: &mut [u32], limit: f64)
+pub fn clip_at(hist: &mut [u32], limit: f64)
     requires { ⌜ (length (now hist) ≡ 256) × (sumOf (now hist) < 2 ^ 31) × T (le zero64 limit) ⌝ }
     ensures { λ _. ⌜ now (hist .exit) ≡ Clahe.clipAt limit (now (hist .entry)) ⌝ }
 {

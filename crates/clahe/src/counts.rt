@@ -1,20 +1,14 @@
 // How many valid pixels of a tile stand at each level.
 ghost use mathlib.Core.Path.{_≡_};
-ghost use Prim.Native.Nat.{ℕ, _≤_, _<_, _*_};
+ghost use Prim.Native.Nat.{ℕ, _≤_, _<_};
 ghost use lib.ListN.{length, getD};
 ghost use Rattle.spec.specs.Lists.{stored};
-ghost use Rattle.spec.specs.Value as Value;
 ghost use Rattle.spec.specs.Clahe as Clahe;
 ghost use Rattle.clahe.specs.Band.{band, levels, Raster};
 use super::tiles::tile_size;
 use super::tiles::tile_start;
-
-// The place of a value in a window.
-pub fn normalised(v: f64, low: f64, high: f64, range: f64) -> f64
-    ensures { λ r. ⌜ r ≡ Value.normalized low high range v ⌝ }
-{
-    (numeric::clamp_f64(v, low, high) - low) / range
-}
+use types::Sides;
+use types::WindowFloats;
 
 // The bin of a normalised value.
 pub fn level_of(u: f64) -> usize
@@ -24,15 +18,15 @@ pub fn level_of(u: f64) -> usize
 }
 
 // Adds the valid pixels of a row to the counts of their levels.
-pub fn count_row(db: &[f64], valid_mask: &[u8], low: f64, high: f64, range: f64, hist: &mut [u32])
+fn count_row(db: &[f64], valid_mask: &[u8], window: WindowFloats, hist: &mut [u32])
     requires { ⌜ (length (now «valid_mask») ≡ length (now db)) × (length (now db) ≤ 4096) ⌝ }
     requires { ⌜ (length (now hist) ≡ 256) × ((k : ℕ) → getD (now hist) k 0 ≤ 16777216) ⌝ }
-    ensures { λ _. ⌜ now (hist .exit) ≡ stored (now (hist .entry)) (levels (band low high range (now («valid_mask» .entry)) (now (db .entry)))) ⌝ }
+    ensures { λ _. ⌜ now (hist .exit) ≡ stored (now (hist .entry)) (levels (band window (now («valid_mask» .entry)) (now (db .entry)))) ⌝ }
 {
     let mut i: usize = 0;
     while i < db.len() {
         if valid_mask[i] != 0 {
-            let b = level_of(normalised(db[i], low, high, range));
+            let b = level_of(numeric::normalized(db[i], window.low, window.high, window.range));
             let n = hist[b];
             hist[b] = n + 1;
         }
@@ -41,34 +35,31 @@ pub fn count_row(db: &[f64], valid_mask: &[u8], low: f64, high: f64, range: f64,
 }
 
 // The counts of the tile in row ty and column tx of tiles.
-pub fn count_tile(
+pub(crate) fn count_tile(
     db: &[f64],
     valid_mask: &[u8],
-    rows: usize,
-    cols: usize,
-    low: f64,
-    high: f64,
-    range: f64,
+    sides: Sides,
+    window: WindowFloats,
     ty: usize,
     tx: usize,
     hist: &mut [u32],
 )
-    requires { ⌜ Raster rows cols (now «valid_mask») (now db) × (ty < 8) × (tx < 8) ⌝ }
+    requires { ⌜ Raster (sides .rows) (sides .cols) (now «valid_mask») (now db) × (ty < 8) × (tx < 8) ⌝ }
     requires { ⌜ (length (now hist) ≡ 256) × ((k : ℕ) → getD (now hist) k 0 ≡ 0) ⌝ }
-    ensures { λ _. ⌜ now (hist .exit) ≡ Clahe.tileCounts (Clahe.tilePixels rows cols (band low high range (now («valid_mask» .entry)) (now (db .entry))) ty tx) ⌝ }
+    ensures { λ _. ⌜ now (hist .exit) ≡ Clahe.tileCounts (Clahe.tilePixels (sides .rows) (sides .cols) (band window (now («valid_mask» .entry)) (now (db .entry))) ty tx) ⌝ }
 {
-    let top = tile_start(rows, ty);
-    let height = tile_size(rows, ty);
-    let left = tile_start(cols, tx);
-    let width = tile_size(cols, tx);
+    let top = tile_start(sides.rows, ty);
+    let height = tile_size(sides.rows, ty);
+    let left = tile_start(sides.cols, tx);
+    let width = tile_size(sides.cols, tx);
     if width == 0 {
         return;
     }
     let mut r: usize = 0;
     while r < height {
-        let at = (top + r) * cols + left;
+        let at = (top + r) * sides.cols + left;
         let end = at + width;
-        count_row(&db[at..end], &valid_mask[at..end], low, high, range, hist);
+        count_row(&db[at..end], &valid_mask[at..end], window, hist);
         r += 1;
     }
 }

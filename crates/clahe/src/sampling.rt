@@ -5,10 +5,12 @@ ghost use lib.ListN.{length};
 ghost use lib.Ieee.{binary64, sub};
 ghost use Rattle.clahe.specs.Work.{Among, sampled};
 ghost use Rattle.spec.specs.Clahe as Clahe;
+use super::columns::Column;
+use super::columns::next_tile;
 use types::TilePosition;
 
 // How far a position lies past the middle of its first tile: below 0 at the top and left edges.
-pub fn past(position: f64, middle: f64) -> f64
+fn past(position: f64, middle: f64) -> f64
     ensures { λ r. ⌜ r ≡ sub binary64 position middle ⌝ }
 {
     position - middle
@@ -32,21 +34,21 @@ pub fn tile_position(side: usize, i: usize) -> TilePosition
 }
 
 // a at weight 0 and b at weight 1.
-pub fn blend(weight: f64, a: f64, b: f64) -> f64
+fn blend(weight: f64, a: f64, b: f64) -> f64
     ensures { λ r. ⌜ r ≡ Clahe.blend weight a b ⌝ }
 {
     a * (1.0 - weight) + b * weight
 }
 
 // The sum at bin b, from the four tiles around.
-pub fn sample(work: &[f64], y: TilePosition, x: TilePosition, b: usize) -> f64
-    requires { ⌜ (length (now work) ≡ 16384) × Among y × Among x × (b < 256) ⌝ }
+pub fn sample(work: &[f64], y: TilePosition, x: Column, b: usize) -> f64
+    requires { ⌜ (length (now work) ≡ 16384) × Among y × (x .first < 8) × (b < 256) ⌝ }
     ensures { λ r. ⌜ r ≡ sampled (now (work .entry)) y x b ⌝ }
 {
     let top = y.first * 8;
     let bottom = y.second * 8;
     let left = x.first;
-    let right = x.second;
+    let right = next_tile(x.first);
     let a = blend(
         x.weight,
         work[(top + left) * 256 + b],

@@ -14,7 +14,7 @@ pub fn tile_side(s: usize) -> usize
 }
 
 // Where tile k begins.
-pub fn tile_start(s: usize, k: usize) -> usize
+pub(crate) fn tile_start(s: usize, k: usize) -> usize
     requires { ⌜ (s ≤ 4096) × (k < 8) ⌝ }
     ensures { λ r. ⌜ r ≡ tileStart s k ⌝ }
 {
@@ -22,7 +22,7 @@ pub fn tile_start(s: usize, k: usize) -> usize
 }
 
 // How many rows or columns tile k has: the last may be shorter, or empty.
-pub fn tile_size(s: usize, k: usize) -> usize
+pub(crate) fn tile_size(s: usize, k: usize) -> usize
     requires { ⌜ (s ≤ 4096) × (k < 8) ⌝ }
     ensures { λ r. ⌜ r ≡ tileSize s k ⌝ }
 {

@@ -24,7 +24,8 @@ use Rattle.spec.specs.Window.{opened, chooseClip, tamedClip, windowOf, pictureW
 use Rattle.spec.specs.Value.{full8, full16, normalized, valueOf, paint}
 use Rattle.spec.specs.Stretch.{stretchByte, stretch}
 use Rattle.spec.specs.Grey.{values, greyTests, autoscaleDbImageToU8, autoscaleDbImageToU16}
-use Rattle.spec.specs.Picture.{Picture, Lent, pictureGreys, composed, pictureTests, syntheticRgbPicture}
+use Rattle.types.specs.declared.Lent.{Lent}
+use Rattle.spec.specs.Picture.{Picture, pictureGreys, composed, pictureTests, syntheticRgbPicture}
 use Rattle.numeric.proofs.Order.{Number}
 use Rattle.numeric.proofs.Picks.{clamped-hi, toUnsigned-le}
 use Rattle.raster.proofs.Bands.{or-false, pixels-length}
@@ -180,7 +181,7 @@ module _ (strategy : AutoscaleStrategy) (n : isClahe strategy ≡ false) (mode :
   picture-accepted w1 w2 e =
       let h = none-holds 0 _ e in
       let named = or-false (lengthsRefused rows cols m1 d1 || lengthsRefused rows cols m2 d2) (unlike (lent .grey1) (rows * cols))
-        (or-false _ (unlike (lent .grey2) (rows * cols)) (or-false _ (unlike (lent .colours) (3 * (rows * cols))) (or-false _ (workRefused strategy (lent .work)) (h .1 .0) .0) .0) .0) .0 in
+        (or-false _ (unlike (lent .grey2) (rows * cols)) (or-false _ (unlike (lent .rgb) (3 * (rows * cols))) (or-false _ (workRefused strategy (lent .work)) (h .1 .0) .0) .0) .0) .0 in
       let names = or-false (lengthsRefused rows cols m1 d1) (lengthsRefused rows cols m2 d2) named in
       let good = or-false (decibelsRefused (pixels m1 d1)) (decibelsRefused (pixels m2 d2)) (h .1 .1 .1 .0) in
       (named-lengths rows cols m1 d1 (names .0), good .0, named-lengths rows cols m2 d2 (names .1), good .1)

@@ -23,7 +23,8 @@ use Rattle.spec.specs.Value.{full8}
 use Rattle.spec.specs.Stretch.{stretch, stretchByte}
 use Rattle.spec.specs.Colour.{plain, suppressed, floorLevel, coloursOf}
 use Rattle.spec.specs.Grey.{values}
-use Rattle.spec.specs.Picture.{Picture, Lent, pictureGreys, composed, pictureTests, syntheticRgbPicture}
+use Rattle.types.specs.declared.Lent.{Lent}
+use Rattle.spec.specs.Picture.{Picture, pictureGreys, composed, pictureTests, syntheticRgbPicture}
 use Rattle.spec.specs.Places.{Order, moved, dark, movedPicture}
 use Rattle.lists.proofs.Counts.{Below}
 use Rattle.lists.proofs.Reorder.{perm-length, any-perm, lowest-perm, highest-perm, floor-perm, moved-perm, zip-moved, map-moved, map-same}

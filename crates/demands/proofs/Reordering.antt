@@ -19,7 +19,8 @@ use Rattle.spec.specs.Refusals.{decibelRefused, decibelsRefused}
 use Rattle.spec.specs.Moments.{noMoments, withValue, momentsFrom}
 use Rattle.spec.specs.Statistics.{statisticsOf, summaryOf}
 use Rattle.spec.specs.Colour.{bytesOf}
-use Rattle.spec.specs.Picture.{Picture, Lent, syntheticRgbPicture}
+use Rattle.types.specs.declared.Lent.{Lent}
+use Rattle.spec.specs.Picture.{Picture, syntheticRgbPicture}
 use Rattle.spec.specs.Places.{Order, moved, dark, movedPicture}
 use Rattle.lists.proofs.Reorder.{perm-length, valid-perm, moved-perm}
 use Rattle.numeric.proofs.Order.{Number, number-of-finite}

@@ -28,7 +28,8 @@ use Rattle.spec.specs.Value.{full8}
 use Rattle.spec.specs.Stretch.{stretch}
 use Rattle.spec.specs.Grey.{values, greyTests, autoscaleDbImageToU8}
 use Rattle.spec.specs.Colour.{createSyntheticRgbByModeAndStrategy}
-use Rattle.spec.specs.Picture.{Picture, Lent, pictureGreys, composed, pictureTests, syntheticRgbPicture}
+use Rattle.types.specs.declared.Lent.{Lent}
+use Rattle.spec.specs.Picture.{Picture, pictureGreys, composed, pictureTests, syntheticRgbPicture}
 use Rattle.lists.proofs.Counts.{Below, counts-sum}
 use Rattle.raster.proofs.Bands.{or-false}
 use Rattle.demands.specs.Sides.{withMean, Sides}
@@ -161,7 +162,7 @@ module _ (strategy : AutoscaleStrategy) (n : isTamed strategy ≡ false) (mode :
       let h = done-answer _ _ _ e in
       let a = none-holds 0 _ (h .0) in
       let b5 = or-false _ (workRefused strategy (lent .work)) (a .1 .0) in
-      let b4 = or-false _ (unlike (lent .colours) (3 * (rows * cols))) (b5 .0) in
+      let b4 = or-false _ (unlike (lent .rgb) (3 * (rows * cols))) (b5 .0) in
       let b3 = or-false _ (unlike (lent .grey2) (rows * cols)) (b4 .0) in
       let b2 = or-false (lengthsRefused rows cols m1 d1 || lengthsRefused rows cols m2 d2) (unlike (lent .grey1) (rows * cols)) (b3 .0) in
       let names = or-false (lengthsRefused rows cols m1 d1) (lengthsRefused rows cols m2 d2) (b2 .0) in

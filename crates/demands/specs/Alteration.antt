@@ -9,7 +9,8 @@ use Rattle.spec.specs.Altered.{Altered}
 use Rattle.spec.specs.Statistics.{computeHistogramStats}
 use Rattle.spec.specs.Window.{autoscaleWindow}
 use Rattle.spec.specs.Grey.{autoscaleDbImageToU8, autoscaleDbImageToU16}
-use Rattle.spec.specs.Picture.{Lent, syntheticRgbPicture}
+use Rattle.types.specs.declared.Lent.{Lent}
+use Rattle.spec.specs.Picture.{syntheticRgbPicture}
 
 -- "Whatever is put there, in any strategy, every call given decibels and marks gives the same reply, the same statistics, window, greys and colours."
 -- An answer is the refusal with its number, or all that comes with being done: equal answers are equal results, done or refused.

@@ -11,7 +11,8 @@ use Rattle.types.specs.declared.AutoscaleStrategy.the-variants.{Clahe}
 use Rattle.types.specs.declared.SyntheticRgbMode.{SyntheticRgbMode}
 use Rattle.spec.specs.Answer.{done}
 use Rattle.spec.specs.Grey.{autoscaleDbImageToU8, autoscaleDbImageToU16}
-use Rattle.spec.specs.Picture.{Picture, Lent, syntheticRgbPicture}
+use Rattle.types.specs.declared.Lent.{Lent}
+use Rattle.spec.specs.Picture.{Picture, syntheticRgbPicture}
 
 -- "outside Clahe"
 abbrev pub OutsideClahe : AutoscaleStrategy → Type 0

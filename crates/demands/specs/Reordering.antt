@@ -10,7 +10,8 @@ use Rattle.types.specs.declared.AutoscaleStrategy.the-variants.{Adaptive, Clahe
 use Rattle.types.specs.declared.SyntheticRgbMode.{SyntheticRgbMode}
 use Rattle.spec.specs.Answer.{Answer, refused, done}
 use Rattle.spec.specs.Colour.{bytesOf}
-use Rattle.spec.specs.Picture.{Picture, Lent, syntheticRgbPicture}
+use Rattle.types.specs.declared.Lent.{Lent}
+use Rattle.spec.specs.Picture.{Picture, syntheticRgbPicture}
 use Rattle.spec.specs.Places.{Order, moved, movedPicture}
 
 -- "For every strategy but Adaptive and Clahe"

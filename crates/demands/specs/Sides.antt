@@ -16,7 +16,8 @@ use Rattle.spec.specs.Statistics.{computeHistogramStats}
 use Rattle.spec.specs.Window.{windowOf, pictureWindow, autoscaleWindow}
 use Rattle.spec.specs.Grey.{autoscaleDbImageToU8}
 use Rattle.spec.specs.Colour.{createSyntheticRgbByModeAndStrategy}
-use Rattle.spec.specs.Picture.{Picture, Lent, syntheticRgbPicture}
+use Rattle.types.specs.declared.Lent.{Lent}
+use Rattle.spec.specs.Picture.{Picture, syntheticRgbPicture}
 
 -- the statistics with another mean and deviation
 abbrev pub withMean : Float → Float → HistogramStats → HistogramStats

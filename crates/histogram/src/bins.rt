@@ -8,7 +8,7 @@ ghost use Rattle.spec.specs.Lists.{stored};
 ghost use Rattle.spec.specs.Pixels.{pixels, validOf};
 
 // The bin of a value: its place between least and greatest in 4,096ths, the fraction dropped.
-pub fn bin_of(v: f64, min_db: f64, inv_span: f64) -> usize
+fn bin_of(v: f64, min_db: f64, inv_span: f64) -> usize
     ensures { λ r. ⌜ (r ≡ binOf «min_db» «inv_span» v) × (r < 4096) ⌝ }
 {
     let t = numeric::clamp_f64((v - min_db) * inv_span, 0.0, 1.0);
@@ -17,7 +17,7 @@ pub fn bin_of(v: f64, min_db: f64, inv_span: f64) -> usize
 }
 
 // Adds each valid value to its bin, to what the bins hold already.
-pub fn fill_bins(db: &[f64], valid_mask: &[u8], min_db: f64, inv_span: f64, hist: &mut [u32])
+pub(crate) fn fill_bins(db: &[f64], valid_mask: &[u8], min_db: f64, inv_span: f64, hist: &mut [u32])
     requires { ⌜ (length (now «valid_mask») ≡ length (now db)) × (length (now hist) ≡ 4096) × ((k : ℕ) → getD (now hist) k 0 + length (now db) < 2 ^ 32) ⌝ }
     ensures { λ _. ⌜ now (hist .exit) ≡ stored (now (hist .entry)) (map (binOf «min_db» «inv_span») (validOf (pixels (now («valid_mask» .entry)) (now (db .entry))))) ⌝ }
 {

@@ -9,12 +9,12 @@ use types::HistogramStats;
 use types::Moments;
 use types::StatisticsAnswer;
 
-pub mod bins;
+mod bins;
 pub mod moments;
-pub mod percentile;
+mod percentile;
 
 // "deviation = root of m2/count, 0 for count 1".
-pub fn deviation_of(m: Moments) -> f64
+fn deviation_of(m: Moments) -> f64
     ensures { λ r. ⌜ r ≡ deviationOf m ⌝ }
 {
     if m.count > 1 {
@@ -24,14 +24,14 @@ pub fn deviation_of(m: Moments) -> f64
 }
 
 // "max - min < 2^-52".
-pub fn is_flat(m: Moments) -> bool
+fn is_flat(m: Moments) -> bool
     ensures { λ r. ⌜ r ≡ isFlat m ⌝ }
 {
     m.max_db - m.min_db < 2.220446049250313e-16
 }
 
 // The record of a flat scene: "median, p01 to p25 are min; p75 to p99 are max".
-pub fn flat_stats(m: Moments) -> HistogramStats
+fn flat_stats(m: Moments) -> HistogramStats
     ensures { λ r. ⌜ r ≡ gathered m (flatPercentile m) ⌝ }
 {
     HistogramStats {
@@ -55,7 +55,7 @@ pub fn flat_stats(m: Moments) -> HistogramStats
 }
 
 // The record of any other scene, its percentiles from the bins.
-pub fn spread_stats(m: Moments, hist: &[u32]) -> HistogramStats
+fn spread_stats(m: Moments, hist: &[u32]) -> HistogramStats
     requires { ⌜ length (now hist) ≡ 4096 ⌝ }
     ensures { λ r. ⌜ r ≡ spreadStats m (now (hist .entry)) ⌝ }
 {
@@ -96,7 +96,7 @@ pub fn spread_stats(m: Moments, hist: &[u32]) -> HistogramStats
 }
 
 // The record from moments and bins.
-pub fn stats_from_bins(m: Moments, hist: &[u32]) -> HistogramStats
+fn stats_from_bins(m: Moments, hist: &[u32]) -> HistogramStats
     requires { ⌜ length (now hist) ≡ 4096 ⌝ }
     ensures { λ r. ⌜ r ≡ statsFromBins m (now (hist .entry)) ⌝ }
 {

@@ -17,7 +17,7 @@ pub enum FirstPass {
 }
 
 // Before the first value.
-pub fn no_moments() -> Moments
+fn no_moments() -> Moments
     ensures { λ r. ⌜ r ≡ noMoments ⌝ }
 {
     Moments {
@@ -30,7 +30,7 @@ pub fn no_moments() -> Moments
 }
 
 // The least with one value more: the first met stays among equals.
-pub fn least_met(first: bool, least: f64, v: f64) -> f64
+fn least_met(first: bool, least: f64, v: f64) -> f64
     ensures { λ r. ⌜ r ≡ cond (first || lt v least) v least ⌝ }
 {
     if first {
@@ -40,7 +40,7 @@ pub fn least_met(first: bool, least: f64, v: f64) -> f64
 }
 
 // The greatest with one value more, likewise.
-pub fn greatest_met(first: bool, greatest: f64, v: f64) -> f64
+fn greatest_met(first: bool, greatest: f64, v: f64) -> f64
     ensures { λ r. ⌜ r ≡ cond (first || lt greatest v) v greatest ⌝ }
 {
     if first {
@@ -50,7 +50,7 @@ pub fn greatest_met(first: bool, greatest: f64, v: f64) -> f64
 }
 
 // Count, least and greatest with one value more.
-pub fn with_extreme(m: Moments, v: f64) -> Moments
+fn with_extreme(m: Moments, v: f64) -> Moments
     requires { ⌜ m .count + 1 < 2 ^ 32 ⌝ }
     ensures { λ r. ⌜ r ≡ withExtreme m v ⌝ }
 {
@@ -65,7 +65,7 @@ pub fn with_extreme(m: Moments, v: f64) -> Moments
 }
 
 // All moments with one value more.
-pub fn with_value(m: Moments, v: f64) -> Moments
+fn with_value(m: Moments, v: f64) -> Moments
     requires { ⌜ m .count + 1 < 2 ^ 32 ⌝ }
     ensures { λ r. ⌜ r ≡ withValue m v ⌝ }
 {

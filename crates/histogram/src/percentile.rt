@@ -7,7 +7,7 @@ use types::BinRank;
 use types::Percentile;
 
 // "target = floor(p × count), at most count - 1"; 0 for no value.
-pub fn target_of(p: f64, count: u32) -> u64
+fn target_of(p: f64, count: u32) -> u64
     ensures { λ r. ⌜ r ≡ targetOf p count ⌝ }
 {
     let place = numeric::f64_as_u64(p * (count as f64));
@@ -19,7 +19,7 @@ pub fn target_of(p: f64, count: u32) -> u64
 }
 
 // "take the first bin whose running count exceeds the target": the last bin if none does.
-pub fn find_bin(hist: &[u32], target: u64) -> BinRank
+fn find_bin(hist: &[u32], target: u64) -> BinRank
     requires { ⌜ (length (now hist) ≡ 4096) × (target < 2 ^ 32) ⌝ }
     ensures { λ r. ⌜ r ≡ findBin target 0 0 (now (hist .entry)) ⌝ }
 {
@@ -49,7 +49,7 @@ pub fn find_bin(hist: &[u32], target: u64) -> BinRank
 }
 
 // "the value is (min + bin × width) + (w/h) × width".
-pub fn value_at(min_db: f64, bin_width: f64, found: BinRank) -> f64
+fn value_at(min_db: f64, bin_width: f64, found: BinRank) -> f64
     requires { ⌜ (found .bin < 2 ^ 32) × (found .rank < 2 ^ 32) ⌝ }
     ensures { λ r. ⌜ r ≡ valueAt «min_db» «bin_width» found ⌝ }
 {
@@ -62,7 +62,7 @@ pub fn value_at(min_db: f64, bin_width: f64, found: BinRank) -> f64
 }
 
 // The percentile of fraction p from count values in the bins.
-pub fn estimate_percentile(
+pub(crate) fn estimate_percentile(
     hist: &[u32],
     min_db: f64,
     bin_width: f64,

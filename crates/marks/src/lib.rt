@@ -9,7 +9,7 @@ ghost use Rattle.spec.specs.Marks.{markOf, processScalarDataMask};
 use types::Reply;
 
 // The mark of one value: 0 for a NaN.
-pub fn mark_of(x: f32) -> u8
+fn mark_of(x: f32) -> u8
     ensures { λ r. ⌜ r ≡ markOf x ⌝ }
 {
     if x > 1e-5 { 1 } else { 0 }

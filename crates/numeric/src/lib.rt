@@ -6,6 +6,7 @@ ghost use lib.Ieee.{binary32, binary64, toUnsigned, ofBits, le};
 ghost use Rattle.spec.specs.Floats.{zero64, maxFloat, minFloat, clampFloat, absFloat, roundAsU64};
 ghost use Rattle.spec.specs.Value.{full16};
 ghost use Rattle.numeric.specs.Round.{roundFloat};
+ghost use Rattle.spec.specs.Value as Value;
 ghost use Rattle.spec.specs.Root.{wholeRoot, rootOf, sqrtFloat};
 
 // `f64::max`: a NaN in the first place loses, and of two equals the second is given.
@@ -27,6 +28,13 @@ pub fn clamp_f64(x: f64, low: f64, high: f64) -> f64
     ensures { λ r. ⌜ r ≡ clampFloat low high x ⌝ }
 {
     min_f64(max_f64(x, low), high)
+}
+
+// The place of a value in a window: held to low..high, minus low, over range.
+pub fn normalized(v: f64, low: f64, high: f64, range: f64) -> f64
+    ensures { λ r. ⌜ r ≡ Value.normalized low high range v ⌝ }
+{
+    (clamp_f64(v, low, high) - low) / range
 }
 
 // `f64::abs`.

@@ -63,7 +63,7 @@ fn refusal(a: usize, b: usize, out: usize) -> u8
 }
 
 // The operation on whole lists.
-pub fn operate_arrays(operation: PolarizationOperation, a: &[f32], b: &[f32], out: &mut [f32]) -> Reply
+fn operate_arrays(operation: PolarizationOperation, a: &[f32], b: &[f32], out: &mut [f32]) -> Reply
     ensures reply { λ r. ⌜ replyNumber r ≡ number (operateArrays (operate operation) (now (a .entry)) (now (b .entry)) (length (now (out .entry)))) ⌝ }
     ensures values { λ _. ⌜ now (out .exit) ≡ after (λ l. l) (operateArrays (operate operation) (now (a .entry)) (now (b .entry)) (length (now (out .entry)))) (now (out .entry)) ⌝ }
 {

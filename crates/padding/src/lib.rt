@@ -49,17 +49,6 @@ fn row_start(rows: usize, cols: usize, row: usize) -> usize
     (row + pad_rows) * max_dim + pad_cols
 }
 
-// Zeros everywhere.
-fn clear_u8(padded: &mut [u8])
-    ensures { λ _. ⌜ now (padded .exit) ≡ replicate (length (now (padded .entry))) 0 ⌝ }
-{
-    let mut i = 0;
-    while i < padded.len() {
-        padded[i] = 0;
-        i += 1;
-    }
-}
-
 // One row into its place, `at` and on.
 fn copy_row_u8(row: &[u8], padded: &mut [u8], at: usize)
     requires { ⌜ at + length (now row) ≤ length (now padded) ⌝ }
@@ -100,20 +89,9 @@ pub fn add_padding_to_square_u8(
     if refused > 0 {
         return Reply::Refused(refused);
     }
-    clear_u8(padded);
+    lists::clear_u8(padded);
     place_rows_u8(rows, cols, u8_data, padded);
     Reply::Done
-}
-
-// Zeros everywhere, at 16 bits.
-fn clear_u16(padded: &mut [u16])
-    ensures { λ _. ⌜ now (padded .exit) ≡ replicate (length (now (padded .entry))) 0 ⌝ }
-{
-    let mut i = 0;
-    while i < padded.len() {
-        padded[i] = 0;
-        i += 1;
-    }
 }
 
 // One row into its place, `at` and on, at 16 bits.
@@ -156,7 +134,7 @@ pub fn add_padding_to_square_u16(
     if refused > 0 {
         return Reply::Refused(refused);
     }
-    clear_u16(padded);
+    lists::clear_u16(padded);
     place_rows_u16(rows, cols, u16_data, padded);
     Reply::Done
 }

@@ -8,12 +8,14 @@ use native.Mathlib.Omega.{arith}
 use lib.ListN.{length}
 use lib.Ieee.{Float}
 use Rattle.types.specs.declared.AutoscaleStrategy.{AutoscaleStrategy}
+use Rattle.types.specs.declared.Lent.{Lent}
+use Rattle.types.specs.declared.Sides.{Sides}
 use Rattle.spec.specs.Answer.{firstOf}
-use Rattle.spec.specs.Picture.{Lent}
+use Rattle.spec.specs.Pixels.{pixels}
 use Rattle.spec.specs.Refusals.{sidesRefused, lengthsRefused, unlike, workRefused}
 use Rattle.spec.specs.Strategies.{isClahe}
 use Rattle.clahe.specs.Band.{Raster}
-use Rattle.raster.proofs.Bands.{none-applies, or-false, sides-accepted, lengths-accepted, named}
+use Rattle.raster.proofs.Bands.{none-applies, or-false, sides-accepted, lengths-accepted, named, pixels-length}
 use Rattle.pipeline.specs.Ready.{Ready}
 use Rattle.pipeline.specs.Windows.{pictureLengthsRefused}
 
@@ -32,10 +34,18 @@ pub work-length : (strategy : AutoscaleStrategy) (work : ℕ) → workRefused st
 unfolding workRefused
 work-length strategy work e c = named work 16384 (rw c at e)
 
+-- dB, marks and pixels of a band that is ready are as long as its output
+module _ {strategy : AutoscaleStrategy} {sides : Sides} {m : List ℕ} {d : List Float} {out work : ℕ} (r : Ready strategy sides m d out work) where
+  pub ready-lengths : (length d ≡ out) × (length m ≡ out)
+  ready-lengths = (r .band .db-length ∙ sym (r .out-length), r .band .marks-length ∙ sym (r .out-length))
+
+  pub ready-pixels : length (pixels m d) ≡ out
+  ready-pixels = pixels-length m d (ready-lengths .1 ∙ sym (ready-lengths .0)) ∙ ready-lengths .0
+
 -- a grey call
 module _ (strategy : AutoscaleStrategy) (rows cols : ℕ) (m : List ℕ) (d : List Float) (out work : ℕ) where
   pub grey-ready : (ts : List Bool) → firstOf 1 (sidesRefused rows cols ∷ (lengthsRefused rows cols m d || unlike out (rows * cols) || workRefused strategy work) ∷ ts) ≡ 0 →
-      Ready strategy rows cols m d out work
+      Ready strategy (record { rows = rows; cols = cols }) m d out work
   grey-ready ts e =
       let a = none-applies 0 (sidesRefused rows cols) ((lengthsRefused rows cols m d || unlike out (rows * cols) || workRefused strategy work) ∷ ts) e in
       let b = none-applies 1 (lengthsRefused rows cols m d || unlike out (rows * cols) || workRefused strategy work) ts (a .1) in
@@ -45,9 +55,9 @@ module _ (strategy : AutoscaleStrategy) (rows cols : ℕ) (m : List ℕ) (d : Li
 
 -- a picture
 pub record PictureSized (strategy : AutoscaleStrategy) (rows cols : ℕ) (m1 : List ℕ) (d1 : List Float) (m2 : List ℕ) (d2 : List Float) (lent : Lent) : Type 0 where
-  pub band1 : Ready strategy rows cols m1 d1 (lent .grey1) (lent .work)
-  pub band2 : Ready strategy rows cols m2 d2 (lent .grey2) (lent .work)
-  pub rgb-length : lent .colours ≡ 3 * (rows * cols)
+  pub band1 : Ready strategy (record { rows = rows; cols = cols }) m1 d1 (lent .grey1) (lent .work)
+  pub band2 : Ready strategy (record { rows = rows; cols = cols }) m2 d2 (lent .grey2) (lent .work)
+  pub rgb-length : lent .rgb ≡ 3 * (rows * cols)
 
 module _ (strategy : AutoscaleStrategy) (rows cols : ℕ) (m1 : List ℕ) (d1 : List Float) (m2 : List ℕ) (d2 : List Float) (lent : Lent) where
   pub picture-sized : (ts : List Bool) → firstOf 1 (sidesRefused rows cols ∷ pictureLengthsRefused strategy rows cols m1 d1 m2 d2 lent ∷ ts) ≡ 0 → PictureSized strategy rows cols m1 d1 m2 d2 lent
@@ -55,7 +65,7 @@ module _ (strategy : AutoscaleStrategy) (rows cols : ℕ) (m1 : List ℕ) (d1 : 
       let a = none-applies 0 (sidesRefused rows cols) (pictureLengthsRefused strategy rows cols m1 d1 m2 d2 lent ∷ ts) e in
       let b = none-applies 1 (pictureLengthsRefused strategy rows cols m1 d1 m2 d2 lent) ts (a .1) in
       let w = or-false _ (workRefused strategy (lent .work)) (b .0) in
-      let c = or-false _ (unlike (lent .colours) (3 * (rows * cols))) (w .0) in
+      let c = or-false _ (unlike (lent .rgb) (3 * (rows * cols))) (w .0) in
       let g2 = or-false _ (unlike (lent .grey2) (rows * cols)) (c .0) in
       let g1 = or-false (lengthsRefused rows cols m1 d1 || lengthsRefused rows cols m2 d2) (unlike (lent .grey1) (rows * cols)) (g2 .0) in
       let n = or-false (lengthsRefused rows cols m1 d1) (lengthsRefused rows cols m2 d2) (g1 .0) in
@@ -63,5 +73,5 @@ module _ (strategy : AutoscaleStrategy) (rows cols : ℕ) (m1 : List ℕ) (d1 : 
       record {
         band1 = record { band = sized rows cols m1 d1 (a .0) (n .0); out-length = named (lent .grey1) (rows * cols) (g1 .1); work-length = k };
         band2 = record { band = sized rows cols m2 d2 (a .0) (n .1); out-length = named (lent .grey2) (rows * cols) (g2 .1); work-length = k };
-        rgb-length = named (lent .colours) (3 * (rows * cols)) (c .1)
+        rgb-length = named (lent .rgb) (3 * (rows * cols)) (c .1)
       }

@@ -1,11 +1,13 @@
 -- The grey calls by the window that `grey_window` answers. Assumes nothing.
 use mathlib.Core.Path.{_≡_, refl, sym, ap, _∙_}
-use mathlib.Core.Bool.{Bool, false}
+use mathlib.Core.Bool.{Bool, true, false}
 use mathlib.Core.List.{List, [], _∷_, map}
 use Prim.Native.Nat.{ℕ, zero, suc}
 use types.Run.{OneOf, miss}
 use denote.Enum.Declared.{tagOf}
-use lib.Ieee.{Float}
+use borrow.Author.Tests.{not-false}
+use lib.ListN.{length}
+use lib.Ieee.{Float, ne}
 use Rattle.types.specs.declared.AutoscaleStrategy.{AutoscaleStrategy}
 use Rattle.types.specs.declared.AutoscaleStrategy.the-variants.{Clahe}
 use Rattle.types.specs.declared.WindowAnswer.{WindowAnswer}
@@ -18,8 +20,7 @@ use Rattle.spec.specs.Strategies.{isClahe}
 use Rattle.spec.specs.Window.{windowOf, gammaRefused}
 use Rattle.spec.specs.Clahe.{claheValues}
 use Rattle.spec.specs.Grey.{normalPixel, values, greyTests}
-use Rattle.autoscale.specs.Painted.{plainValues, painting}
-use Rattle.autoscale.proofs.Answers.{replies-refused, replies-same}
+use Rattle.autoscale.specs.Painted.{plainValues, opens}
 use Rattle.raster.proofs.Bands.{none-applies}
 use Rattle.pipeline.specs.Ready.{Ready}
 use Rattle.pipeline.specs.Windows.{unless, greyWindow}
@@ -27,16 +28,12 @@ use Rattle.pipeline.specs.Work.{uses, Kept}
 use Rattle.pipeline.proofs.Accepted.{grey-ready}
 use Rattle.pipeline.proofs.Windowed.{window-open}
 
--- ---- painting from a window that no number refuses
-pub open-painting : (w : WindowAnswer) → ((k : ℕ) → w ≡ Refused k → ⊥) → gammaRefused w ≡ false → (greys : List ℕ) → painting w greys ≡ done greys
-unfolding painting gammaRefused answer orRefused
-open-painting (Window low high range gamma) n e greys = rw e
-open-painting Blank n e greys = refl
-open-painting (Refused k) n e greys = absurd (n k refl)
-
-pub paint-refused : (w : WindowAnswer) (k : ℕ) (greys : List ℕ) → w ≡ Refused k → painting w greys ≡ refused k
-unfolding painting
-paint-refused w k greys e = ap (λ (v : WindowAnswer). painting v greys) e
+-- ---- a window that no number refuses
+pub opens-unrefused : (w : WindowAnswer) → ((k : ℕ) → w ≡ Refused k → ⊥) → gammaRefused w ≡ false → opens w ≡ true
+unfolding opens gammaRefused ne
+opens-unrefused (Window low high range gamma) n e = not-false _ e
+opens-unrefused Blank n e = refl
+opens-unrefused (Refused k) n e = absurd (n k refl)
 
 -- the last of six tests does not hold where none does
 pub last-clear : (a b c d e f : Bool) → firstOf 1 (a ∷ b ∷ c ∷ d ∷ e ∷ f ∷ []) ≡ 0 → f ≡ false
@@ -49,65 +46,60 @@ last-clear a b c d e f q =
     none-applies 5 f [] q6 .0
 
 -- ---- the number n, or the window w0
-module _ (n : ℕ) (w0 : WindowAnswer) where
-  -- what is owed is what painting answers
-  by-number : (g : WindowAnswer → List ℕ) → ((k : ℕ) → w0 ≡ Refused k → ⊥) → (n ≡ 0 → gammaRefused w0 ≡ false) → answer n (g w0) ≡ painting (unless Refused n w0) (g (unless Refused n w0))
-  unfolding answer orRefused unless painting
-  by-number g o h = by n refl
-    where
-    by : (j : ℕ) → n ≡ j → answer j (g w0) ≡ painting (unless Refused j w0) (g (unless Refused j w0))
-    by zero e = sym (open-painting w0 o (h e) (g w0))
-    by (suc j) e = refl
+unless-number : (n : ℕ) (w0 : WindowAnswer) (k : ℕ) → ((j : ℕ) → w0 ≡ Refused j → ⊥) → unless Refused n w0 ≡ Refused k → {A : Type 0} (a : A) → answer n a ≡ refused k
+unfolding unless answer orRefused
+unless-number zero w0 k o e a = absurd (o k e)
+unless-number (suc j) w0 k o e a = ap refused (let z : suc j ≡ k = cc in z)
 
--- no number where the window is no refusal
-pub no-number : (n : ℕ) (w0 w : WindowAnswer) → w ≡ unless Refused n w0 → OneOf (0 ∷ 1 ∷ []) (tagOf the-type w) → n ≡ 0
+unless-window : (n : ℕ) (w0 w : WindowAnswer) → w ≡ unless Refused n w0 → OneOf (0 ∷ 1 ∷ []) (tagOf the-type w) → (n ≡ 0) × (w ≡ w0)
 unfolding unless
-no-number zero w0 w e h = refl
-no-number (suc k) w0 w e h = absurd (miss (0 ∷ 1 ∷ []) 2 tt (rw e at h))
+unless-window zero w0 w e h = (refl, e)
+unless-window (suc k) w0 w e h = absurd (miss (0 ∷ 1 ∷ []) 2 tt (rw e at h))
 
-pub uses-done : {A : Type 0} (strategy : AutoscaleStrategy) (n : ℕ) (a : A) → n ≡ 0 → isClahe strategy ≡ uses strategy (answer n a)
-unfolding uses answer orRefused
-uses-done strategy n a e = rw e
+-- what a call owes, once its answer is known
+module _ (strategy : AutoscaleStrategy) (a : Answer (List ℕ)) (old : List ℕ) (work : List Float) where
+  abbrev pub Owed : ℕ → List ℕ → List Float → Type 0
+  Owed r new last = (r ≡ number a) × ((new ≡ after (λ l. l) a old) × Kept (uses strategy a) work last)
 
--- ---- a grey call, whose values a window decides
-module _ (strategy : AutoscaleStrategy) (rows cols : ℕ) (m : List ℕ) (d : List Float) (out work : ℕ) (g : WindowAnswer → List ℕ) (w : WindowAnswer)
-    (is : w ≡ greyWindow strategy rows cols m d out work) where
+  owed-refused : (k : ℕ) → a ≡ refused k → Owed k old work
+  unfolding number after
+  owed-refused k e = (sym (ap number e), (sym (ap (λ (q : Answer (List ℕ)). after (λ l. l) q old) e), record { size = refl; same = λ u. refl }))
+
+  owed-done : (greys new : List ℕ) (last : List Float) → a ≡ done greys → new ≡ greys → Kept (isClahe strategy) work last → Owed 0 new last
+  unfolding number after uses
+  owed-done greys new last e f k = (sym (ap number e), (f ∙ sym (ap (λ (q : Answer (List ℕ)). after (λ l. l) q old) e), rw e k))
+
+-- ---- a grey call, whose values g a window decides
+module _ (strategy : AutoscaleStrategy) (rows cols : ℕ) (m : List ℕ) (d : List Float) (out : List ℕ) (work : List Float) (g : WindowAnswer → List ℕ) (w : WindowAnswer)
+    (is : w ≡ greyWindow strategy rows cols m d (length out) (length work)) where
   abbrev w0 : WindowAnswer
   w0 = windowOf strategy (statisticsOf (pixels m d))
 
   abbrev n : ℕ
-  n = firstOf 1 (greyTests strategy rows cols m d out work (pixels m d) w0)
-
-  abbrev owed : Answer (List ℕ)
-  owed = answer n (g w0)
-
-  is-painting : painting w (g w) ≡ owed
-  unfolding greyWindow greyTests
-  is-painting =
-      ap (λ (v : WindowAnswer). painting v (g v)) is
-      ∙ sym (by-number n w0 g (window-open strategy (statisticsOf (pixels m d))) (last-clear _ _ _ _ _ (gammaRefused w0)))
+  n = firstOf 1 (greyTests strategy rows cols m d (length out) (length work) (pixels m d) w0)
 
   -- refused: nothing is written
-  pub grey-refused : (k : ℕ) (old : List ℕ) (kept : List Float) → w ≡ Refused k → (k ≡ number owed) × ((old ≡ after (λ l. l) owed old) × Kept (uses strategy owed) kept kept)
-  grey-refused k old kept e =
-      let r = replies-refused owed old k (sym is-painting ∙ paint-refused w k (g w) e) in
-      (r .0, (r .1, record { size = refl; same = λ u. refl }))
+  pub grey-refused : (k : ℕ) → w ≡ Refused k → Owed strategy (answer n (g w0)) out work k out work
+  unfolding greyWindow
+  grey-refused k e = owed-refused strategy (answer n (g w0)) out work k (unless-number n w0 k (window-open strategy (statisticsOf (pixels m d))) (sym is ∙ e) (g w0))
 
   module _ (unrefused : OneOf (0 ∷ 1 ∷ []) (tagOf the-type w)) where
-    none : n ≡ 0
+    known : (n ≡ 0) × (w ≡ w0)
     unfolding greyWindow
-    none = no-number n w0 w is unrefused
+    known = unless-window n w0 w is unrefused
 
-    pub grey-asks : Ready strategy rows cols m d out work
+    pub grey-asks : Ready strategy (record { rows = rows; cols = cols }) m d (length out) (length work)
     unfolding greyTests
-    grey-asks = grey-ready strategy rows cols m d out work _ none
+    grey-asks = grey-ready strategy rows cols m d (length out) (length work) _ (known .0)
+
+    pub grey-opens : opens w ≡ true
+    unfolding greyTests
+    grey-opens = rw (known .1) (opens-unrefused w0 (window-open strategy (statisticsOf (pixels m d))) (last-clear _ _ _ _ _ (gammaRefused w0) (known .0)))
 
     -- done: the values are written, and Clahe may have written to the work list
-    pub grey-done : (r : ℕ) (old new : List ℕ) (kept last : List Float) → r ≡ number (painting w (g w)) → new ≡ after (λ l. l) (painting w (g w)) old → Kept (isClahe strategy) kept last →
-        (r ≡ number owed) × ((new ≡ after (λ l. l) owed old) × Kept (uses strategy owed) kept last)
-    grey-done r old new kept last e f k =
-        let p = replies-same owed old (painting w (g w)) r new is-painting e f in
-        (p .0, (p .1, rw (← uses-done strategy n (g w0) none) k))
+    pub grey-done : (new : List ℕ) (last : List Float) → new ≡ g w → Kept (isClahe strategy) work last → Owed strategy (answer n (g w0)) out work 0 new last
+    unfolding answer orRefused
+    grey-done new last e k = owed-done strategy (answer n (g w0)) out work (g w0) new last (rw (known .0)) (e ∙ ap g (known .1)) k
 
 -- ---- by Clahe
 

@@ -11,7 +11,8 @@ use Rattle.types.specs.declared.WindowAnswer.{WindowAnswer}
 use Rattle.types.specs.declared.WindowAnswer.the-variants.{Refused}
 use Rattle.types.proofs.WindowAnswer.{the-type}
 use Rattle.spec.specs.Answer.{firstOf}
-use Rattle.spec.specs.Picture.{Lent, pictureTests}
+use Rattle.types.specs.declared.Lent.{Lent}
+use Rattle.spec.specs.Picture.{pictureTests}
 use Rattle.spec.specs.Pixels.{Pixel, pixels}
 use Rattle.spec.specs.Refusals.{sidesRefused, marksRefused, decibelsRefused, tilesRefused}
 use Rattle.spec.specs.Statistics.{statisticsOf}

@@ -12,31 +12,26 @@ use Rattle.types.specs.declared.WindowAnswer.the-variants.{Refused}
 use Rattle.spec.specs.Answer.{Answer, refused, done, firstOf, orRefused, answer, number, after}
 use Rattle.spec.specs.Colour.{bytesOf, coloursOf}
 use Rattle.spec.specs.Grey.{values}
-use Rattle.spec.specs.Picture.{Picture, Lent, pictureGreys, composed, pictureTests}
+use Rattle.types.specs.declared.Lent.{Lent}
+use Rattle.spec.specs.Picture.{Picture, pictureGreys, composed, pictureTests}
 use Rattle.spec.specs.Pixels.{Pixel, pixels}
 use Rattle.spec.specs.Statistics.{statisticsOf}
 use Rattle.spec.specs.Strategies.{isClahe, isTamed}
 use Rattle.spec.specs.Stretch.{stretch}
 use Rattle.spec.specs.Value.{full8}
 use Rattle.spec.specs.Window.{pictureWindow, gammaRefused}
-use Rattle.autoscale.specs.Painted.{plainValues, painting}
+use Rattle.autoscale.specs.Painted.{plainValues, opens}
 use Rattle.autoscale.proofs.Answers.{values-outside}
 use Rattle.raster.proofs.Bands.{or-false}
 use Rattle.pipeline.specs.declared.windows.PictureWindows.{PictureWindows}
 use Rattle.pipeline.specs.declared.windows.PictureWindows.the-variants as Both
-use Rattle.pipeline.specs.Ready.{Opens, PictureReady}
 use Rattle.pipeline.specs.Windows.{unless, pictureWindows}
 use Rattle.pipeline.specs.Work.{uses, Kept}
-use Rattle.pipeline.proofs.Accepted.{picture-sized}
-use Rattle.pipeline.proofs.Greys.{open-painting, last-clear, uses-done}
+use Rattle.pipeline.proofs.Accepted.{PictureSized, picture-sized}
+use Rattle.pipeline.proofs.Greys.{opens-unrefused, last-clear}
 use Rattle.pipeline.proofs.Windowed.{picture-open}
 
 -- ---- one band
-
--- a window that opens leaves the greys
-pub opens-after : (w : WindowAnswer) (greys old new : List ℕ) → Opens w → new ≡ after (λ l. l) (painting w greys) old → new ≡ greys
-unfolding after
-opens-after w greys old new o e = e ∙ ap (λ (a : Answer (List ℕ)). after (λ l. l) a old) (o .paints greys)
 
 tamed-outside : (s : AutoscaleStrategy) → isTamed s ≡ true → isClahe s ≡ false
 unfolding isTamed isClahe
@@ -74,8 +69,8 @@ unless-windows zero a b u v e = (refl, (let z : u ≡ a = cc in z), (let z : v �
 unless-windows (suc j) a b u v e = absurd (let z : _≡_ {A = ℕ} 0 1 = cc in omega arith)
 
 -- ---- the call
-module _ (strategy : AutoscaleStrategy) (rows cols : ℕ) (m1 : List ℕ) (d1 : List Float) (m2 : List ℕ) (d2 : List Float) (grey1 grey2 rgb : List ℕ) (work : List Float)
-    (lent : Lent) (w : PictureWindows) (is : w ≡ pictureWindows strategy rows cols m1 d1 m2 d2 lent) where
+module _ (strategy : AutoscaleStrategy) (rows cols : ℕ) (m1 : List ℕ) (d1 : List Float) (m2 : List ℕ) (d2 : List Float) (lent : Lent) (w : PictureWindows)
+    (is : w ≡ pictureWindows strategy rows cols m1 d1 m2 d2 lent) where
   abbrev px1 : List Pixel
   px1 = pixels m1 d1
 
@@ -101,8 +96,8 @@ module _ (strategy : AutoscaleStrategy) (rows cols : ℕ) (m1 : List ℕ) (d1 : 
   owed = answer n painted
 
   -- what the call owes: the number, the four lists
-  abbrev Owed : ℕ → List ℕ → List ℕ → List ℕ → List Float → Type 0
-  Owed r g1 g2 c last =
+  abbrev Owed : List ℕ → List ℕ → List ℕ → List Float → ℕ → List ℕ → List ℕ → List ℕ → List Float → Type 0
+  Owed grey1 grey2 rgb work r g1 g2 c last =
       (r ≡ number owed)
       × ((g1 ≡ after (λ p. p .grey1) owed grey1)
       × ((g2 ≡ after (λ p. p .grey2) owed grey2)
@@ -112,9 +107,9 @@ module _ (strategy : AutoscaleStrategy) (rows cols : ℕ) (m1 : List ℕ) (d1 : 
   by-answer {B} f old a e = ap (λ (q : Answer Picture). after f q old) (sym e)
 
   -- refused: nothing is written
-  pub picture-refused : (k : ℕ) → w ≡ Both.Refused k → Owed k grey1 grey2 rgb work
+  pub picture-refused : (k : ℕ) → w ≡ Both.Refused k → (grey1 grey2 rgb : List ℕ) (work : List Float) → Owed grey1 grey2 rgb work k grey1 grey2 rgb work
   unfolding pictureWindows number after
-  picture-refused k e =
+  picture-refused k e grey1 grey2 rgb work =
       let r = unless-refused n w01 w02 painted k (sym is ∙ e) in
       (sym (ap number r), (by-answer _ grey1 (refused k) r, (by-answer _ grey2 (refused k) r, (by-answer _ rgb (refused k) r, record { size = refl; same = λ u. refl }))))
 
@@ -128,25 +123,24 @@ module _ (strategy : AutoscaleStrategy) (rows cols : ℕ) (m1 : List ℕ) (d1 : 
     gammas = or-false (gammaRefused w01) (gammaRefused w02) (last-clear _ _ _ _ _ (gammaRefused w01 || gammaRefused w02) (parts .0))
 
     -- both windows are known, and nothing is refused
-    pub picture-asks : PictureReady strategy rows cols m1 d1 w1 m2 d2 w2 (lent .grey1) (lent .grey2) (lent .colours) (lent .work)
+    pub picture-asks : PictureSized strategy rows cols m1 d1 m2 d2 lent
     unfolding pictureTests
-    picture-asks =
-        let s = picture-sized strategy rows cols m1 d1 m2 d2 lent _ (parts .0) in
-        record {
-          band1 = s .band1;
-          band2 = s .band2;
-          opens1 = rw (parts .1) (record { paints = open-painting w01 (picture-open strategy true (statisticsOf px1)) (gammas .0) });
-          opens2 = rw (parts .2) (record { paints = open-painting w02 (picture-open strategy false (statisticsOf px2)) (gammas .1) });
-          rgb-length = s .rgb-length
-        }
+    picture-asks = picture-sized strategy rows cols m1 d1 m2 d2 lent _ (parts .0)
+
+    pub picture-opens : (opens w1 ≡ true) × (opens w2 ≡ true)
+    picture-opens = (
+      rw (parts .1) (opens-unrefused w01 (picture-open strategy true (statisticsOf px1)) (gammas .0)),
+      rw (parts .2) (opens-unrefused w02 (picture-open strategy false (statisticsOf px2)) (gammas .1)),
+    )
 
     is-done : owed ≡ done painted
     unfolding answer orRefused
     is-done = rw (parts .0)
 
-    pub picture-done : (g1 g2 c : List ℕ) (last : List Float) → g1 ≡ greys w1 px1 → g2 ≡ greys w2 px2 → c ≡ bytesOf (coloursOf strategy g1 g2) → Kept (isClahe strategy) work last → Owed 0 g1 g2 c last
-    unfolding number after composed
-    picture-done g1 g2 c last e1 e2 ec k =
+    pub picture-done : (grey1 grey2 rgb : List ℕ) (work : List Float) (g1 g2 c : List ℕ) (last : List Float) → g1 ≡ greys w1 px1 → g2 ≡ greys w2 px2 → c ≡ bytesOf (coloursOf strategy g1 g2) → Kept (isClahe strategy) work last →
+        Owed grey1 grey2 rgb work 0 g1 g2 c last
+    unfolding number after composed uses
+    picture-done grey1 grey2 rgb work g1 g2 c last e1 e2 ec k =
         let h1 : g1 ≡ greys w01 px1 = e1 ∙ ap (λ (v : WindowAnswer). greys v px1) (parts .1) in
         let h2 : g2 ≡ greys w02 px2 = e2 ∙ ap (λ (v : WindowAnswer). greys v px2) (parts .2) in
         let hc : c ≡ bytesOf (coloursOf strategy (greys w01 px1) (greys w02 px2)) =
@@ -154,4 +148,4 @@ module _ (strategy : AutoscaleStrategy) (rows cols : ℕ) (m1 : List ℕ) (d1 : 
         (sym (ap number is-done),
         (h1 ∙ by-answer _ grey1 (done painted) is-done,
         (h2 ∙ by-answer _ grey2 (done painted) is-done,
-        (hc ∙ by-answer _ rgb (done painted) is-done, rw (← uses-done strategy n painted (parts .0)) k))))
+        (hc ∙ by-answer _ rgb (done painted) is-done, rw is-done k))))

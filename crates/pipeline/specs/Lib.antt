@@ -1,3 +1,4 @@
 pub mod Windows
 pub mod Ready
 pub mod Work
+pub mod Answers

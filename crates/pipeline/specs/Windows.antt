@@ -4,11 +4,12 @@ use mathlib.Core.Bool.{Bool, true, false, _&&_, _||_}
 use mathlib.Core.List.{List}
 use lib.Ieee.{Float}
 use Rattle.types.specs.declared.AutoscaleStrategy.{AutoscaleStrategy}
+use Rattle.types.specs.declared.Lent.{Lent}
 use Rattle.types.specs.declared.WindowAnswer.{WindowAnswer}
 use Rattle.types.specs.declared.WindowAnswer.the-variants.{Window, Blank, Refused}
 use Rattle.spec.specs.Answer.{firstOf}
 use Rattle.spec.specs.Grey.{greyTests}
-use Rattle.spec.specs.Picture.{Lent, pictureTests}
+use Rattle.spec.specs.Picture.{pictureTests}
 use Rattle.spec.specs.Pixels.{pixels}
 use Rattle.spec.specs.Refusals.{lengthsRefused, unlike, workRefused, sideRefused}
 use Rattle.spec.specs.Statistics.{statisticsOf}
@@ -39,15 +40,11 @@ greyWindow strategy rows cols marks db out work =
     let w = windowOf strategy (statisticsOf px) in
     unless Refused (firstOf 1 (greyTests strategy rows cols marks db out work px w)) w
 
--- the lengths lent to a picture
-abbrev pub lentLengths : ℕ → ℕ → ℕ → ℕ → Lent
-lentLengths g1 g2 rgb w = record { grey1 = g1; grey2 = g2; colours = rgb; work = w }
-
 -- 2 of a picture, as `pictureTests` has it
 abbrev pub pictureLengthsRefused : AutoscaleStrategy → ℕ → ℕ → List ℕ → List Float → List ℕ → List Float → Lent → Bool
 pictureLengthsRefused strategy rows cols marks1 db1 marks2 db2 lent =
     lengthsRefused rows cols marks1 db1 || lengthsRefused rows cols marks2 db2 || unlike (lent .grey1) (rows * cols)
-    || unlike (lent .grey2) (rows * cols) || unlike (lent .colours) (3 * (rows * cols)) || workRefused strategy (lent .work)
+    || unlike (lent .grey2) (rows * cols) || unlike (lent .rgb) (3 * (rows * cols)) || workRefused strategy (lent .work)
 
 -- both windows of a picture, or the number that refuses the call
 unfoldable pub pictureWindows : AutoscaleStrategy → ℕ → ℕ → List ℕ → List Float → List ℕ → List Float → Lent → PictureWindows

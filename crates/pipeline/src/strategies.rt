@@ -4,7 +4,7 @@ ghost use Rattle.spec.specs.Strategies.{isClahe, isTamed};
 use types::AutoscaleStrategy;
 
 // Whether the band is equalised by tiles.
-pub fn is_clahe(strategy: AutoscaleStrategy) -> bool
+pub(crate) fn is_clahe(strategy: AutoscaleStrategy) -> bool
     ensures { λ r. ⌜ r ≡ isClahe strategy ⌝ }
 {
     match strategy {
@@ -14,7 +14,7 @@ pub fn is_clahe(strategy: AutoscaleStrategy) -> bool
 }
 
 // Whether a picture has windows of its own and no stretch.
-pub fn is_tamed(strategy: AutoscaleStrategy) -> bool
+pub(crate) fn is_tamed(strategy: AutoscaleStrategy) -> bool
     ensures { λ r. ⌜ r ≡ isTamed strategy ⌝ }
 {
     match strategy {

@@ -6,9 +6,9 @@ ghost use Prim.Native.Nat.{_*_, _≤_};
 ghost use Rattle.spec.specs.Answer.{firstOf};
 ghost use Rattle.spec.specs.Refusals.{sidesRefused, lengthsRefused, unlike, workRefused, marksRefused};
 ghost use Rattle.spec.specs.Window.{gammaRefused};
-ghost use Rattle.pipeline.specs.Windows.{windowTilesRefused, greyWindow, lentLengths, pictureLengthsRefused, pictureWindows};
+ghost use Rattle.pipeline.specs.Windows.{windowTilesRefused, greyWindow, pictureLengthsRefused, pictureWindows};
 use crate::strategies;
-use types::{AutoscaleStrategy, WindowAnswer};
+use types::{AutoscaleStrategy, Lent, WindowAnswer};
 
 // Both windows of a picture, or the number that refuses the call.
 pub enum PictureWindows {
@@ -79,7 +79,7 @@ fn grey_refusal(rows: usize, cols: usize, strategy: AutoscaleStrategy, db: &[f64
 }
 
 // The window of a grey call, or the number that refuses the call.
-pub fn grey_window(rows: usize, cols: usize, strategy: AutoscaleStrategy, db: &[f64], valid_mask: &[u8], out: usize, work: usize) -> WindowAnswer
+pub(crate) fn grey_window(rows: usize, cols: usize, strategy: AutoscaleStrategy, db: &[f64], valid_mask: &[u8], out: usize, work: usize) -> WindowAnswer
     ensures { λ r. ⌜ r ≡ greyWindow strategy rows cols (now («valid_mask» .entry)) (now (db .entry)) out work ⌝ }
 {
     let refusal = grey_refusal(rows, cols, strategy, db, valid_mask, out, work);
@@ -100,9 +100,9 @@ pub fn grey_window(rows: usize, cols: usize, strategy: AutoscaleStrategy, db: &[
 }
 
 // 2 of a picture: whether a lent length is not the one named.
-fn picture_lengths_refused(rows: usize, cols: usize, strategy: AutoscaleStrategy, db1: &[f64], valid_mask1: &[u8], db2: &[f64], valid_mask2: &[u8], grey1: usize, grey2: usize, rgb: usize, work: usize) -> bool
+fn picture_lengths_refused(rows: usize, cols: usize, strategy: AutoscaleStrategy, db1: &[f64], valid_mask1: &[u8], db2: &[f64], valid_mask2: &[u8], lent: Lent) -> bool
     requires { ⌜ (rows ≤ 4096) × (cols ≤ 4096) ⌝ }
-    ensures { λ r. ⌜ r ≡ pictureLengthsRefused strategy rows cols (now («valid_mask1» .entry)) (now (db1 .entry)) (now («valid_mask2» .entry)) (now (db2 .entry)) (lentLengths grey1 grey2 rgb work) ⌝ }
+    ensures { λ r. ⌜ r ≡ pictureLengthsRefused strategy rows cols (now («valid_mask1» .entry)) (now (db1 .entry)) (now («valid_mask2» .entry)) (now (db2 .entry)) lent ⌝ }
 {
     if raster::lengths_refused(rows, cols, db1, valid_mask1) {
         return true;
@@ -111,16 +111,16 @@ fn picture_lengths_refused(rows: usize, cols: usize, strategy: AutoscaleStrategy
         return true;
     }
     let n = rows * cols;
-    if grey1 != n {
+    if lent.grey1 != n {
         return true;
     }
-    if grey2 != n {
+    if lent.grey2 != n {
         return true;
     }
-    if rgb != 3 * n {
+    if lent.rgb != 3 * n {
         return true;
     }
-    work_refused(strategy, work)
+    work_refused(strategy, lent.work)
 }
 
 // 3 of a picture.
@@ -134,16 +134,16 @@ fn either_marks_refused(valid_mask1: &[u8], valid_mask2: &[u8]) -> bool
 }
 
 // The smallest of the numbers 1 to 3 that applies to a picture, 0 if none does.
-fn picture_refusal(rows: usize, cols: usize, strategy: AutoscaleStrategy, db1: &[f64], valid_mask1: &[u8], db2: &[f64], valid_mask2: &[u8], grey1: usize, grey2: usize, rgb: usize, work: usize) -> u8
+fn picture_refusal(rows: usize, cols: usize, strategy: AutoscaleStrategy, db1: &[f64], valid_mask1: &[u8], db2: &[f64], valid_mask2: &[u8], lent: Lent) -> u8
     ensures { λ r. ⌜ r ≡ firstOf 1 (
         sidesRefused rows cols
-        ∷ pictureLengthsRefused strategy rows cols (now («valid_mask1» .entry)) (now (db1 .entry)) (now («valid_mask2» .entry)) (now (db2 .entry)) (lentLengths grey1 grey2 rgb work)
+        ∷ pictureLengthsRefused strategy rows cols (now («valid_mask1» .entry)) (now (db1 .entry)) (now («valid_mask2» .entry)) (now (db2 .entry)) lent
         ∷ (marksRefused (now («valid_mask1» .entry)) || marksRefused (now («valid_mask2» .entry))) ∷ []) ⌝ }
 {
     if raster::sides_refused(rows, cols) {
         return 1;
     }
-    if picture_lengths_refused(rows, cols, strategy, db1, valid_mask1, db2, valid_mask2, grey1, grey2, rgb, work) {
+    if picture_lengths_refused(rows, cols, strategy, db1, valid_mask1, db2, valid_mask2, lent) {
         return 2;
     }
     if either_marks_refused(valid_mask1, valid_mask2) {
@@ -174,10 +174,10 @@ fn either_gamma_refused(window1: WindowAnswer, window2: WindowAnswer) -> bool
 }
 
 // Both windows of a picture, or the number that refuses the call: each number is tested over both bands before the next. Band 1 counts as co-pol.
-pub fn picture_windows(rows: usize, cols: usize, strategy: AutoscaleStrategy, db1: &[f64], valid_mask1: &[u8], db2: &[f64], valid_mask2: &[u8], grey1: usize, grey2: usize, rgb: usize, work: usize) -> PictureWindows
-    ensures { λ r. ⌜ r ≡ pictureWindows strategy rows cols (now («valid_mask1» .entry)) (now (db1 .entry)) (now («valid_mask2» .entry)) (now (db2 .entry)) (lentLengths grey1 grey2 rgb work) ⌝ }
+pub(crate) fn picture_windows(rows: usize, cols: usize, strategy: AutoscaleStrategy, db1: &[f64], valid_mask1: &[u8], db2: &[f64], valid_mask2: &[u8], lent: Lent) -> PictureWindows
+    ensures { λ r. ⌜ r ≡ pictureWindows strategy rows cols (now («valid_mask1» .entry)) (now (db1 .entry)) (now («valid_mask2» .entry)) (now (db2 .entry)) lent ⌝ }
 {
-    let refusal = picture_refusal(rows, cols, strategy, db1, valid_mask1, db2, valid_mask2, grey1, grey2, rgb, work);
+    let refusal = picture_refusal(rows, cols, strategy, db1, valid_mask1, db2, valid_mask2, lent);
     if refusal != 0 {
         return PictureWindows::Refused(refusal);
     }

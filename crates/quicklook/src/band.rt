@@ -3,7 +3,7 @@ ghost use mathlib.Core.Path.{_≡_};
 ghost use Rattle.spec.specs.Answer.{number, after};
 ghost use Rattle.spec.specs.Statistics as Statistics;
 ghost use Rattle.spec.specs.Window as Window;
-ghost use Rattle.quicklook.specs.Codes.{strategyOf, withStrategy};
+ghost use Rattle.quicklook.specs.Calls as Calls;
 ghost use Rattle.quicklook.specs.Numbers.{kept, countOf, floatsOf, blankOf, windowFloats};
 use super::codes;
 use types::{AutoscaleStrategy, HistogramStats, StatisticsAnswer, WindowAnswer};
@@ -78,13 +78,13 @@ fn put_window(strategy: AutoscaleStrategy, rows: usize, cols: usize, db: &[f64],
 #[no_mangle]
 pub extern "C" fn quicklook_window(strategy: u8, rows: usize, cols: usize, db: &[f64], valid_mask: &[u8], blank: &mut u8, floats: &mut [f64; 4]) -> u8
     ensures reply {
-        λ r. ⌜ r ≡ number (withStrategy (strategyOf strategy) (λ s. Window.autoscaleWindow s rows cols (now («valid_mask» .entry)) (now (db .entry)))) ⌝
+        λ r. ⌜ r ≡ number (Calls.window strategy rows cols (now («valid_mask» .entry)) (now (db .entry))) ⌝
     }
     ensures blank {
-        λ _. ⌜ now (blank .exit) ≡ kept blankOf (withStrategy (strategyOf strategy) (λ s. Window.autoscaleWindow s rows cols (now («valid_mask» .entry)) (now (db .entry)))) (now (blank .entry)) ⌝
+        λ _. ⌜ now (blank .exit) ≡ kept blankOf (Calls.window strategy rows cols (now («valid_mask» .entry)) (now (db .entry))) (now (blank .entry)) ⌝
     }
     ensures floats {
-        λ _. ⌜ now (floats .exit) ≡ after windowFloats (withStrategy (strategyOf strategy) (λ s. Window.autoscaleWindow s rows cols (now («valid_mask» .entry)) (now (db .entry)))) (now (floats .entry)) ⌝
+        λ _. ⌜ now (floats .exit) ≡ after windowFloats (Calls.window strategy rows cols (now («valid_mask» .entry)) (now (db .entry))) (now (floats .entry)) ⌝
     }
 {
     let codes::StrategyCode::Names(strategy) = codes::strategy_of(strategy) else {

@@ -14,7 +14,7 @@ pub enum ModeCode {
 }
 
 // The strategy that a code names.
-pub fn strategy_of(code: u8) -> StrategyCode
+pub(crate) fn strategy_of(code: u8) -> StrategyCode
     ensures { λ r. ⌜ r ≡ strategyOf code ⌝ }
 {
     match code {
@@ -30,7 +30,7 @@ pub fn strategy_of(code: u8) -> StrategyCode
 }
 
 // The mode that a code names.
-pub fn mode_of(code: u8) -> ModeCode
+pub(crate) fn mode_of(code: u8) -> ModeCode
     ensures { λ r. ⌜ r ≡ modeOf code ⌝ }
 {
     match code {

@@ -1,24 +1,18 @@
 // The calls that give colours.
 ghost use mathlib.Core.Path.{_≡_};
-ghost use lib.ListN.{length};
 ghost use Rattle.spec.specs.Answer.{number, after};
-ghost use Rattle.spec.specs.Colour.{bytesOf, createSyntheticRgbByModeAndStrategy};
-ghost use Rattle.spec.specs.Picture.{syntheticRgbPicture};
-ghost use Rattle.pipeline.specs.Windows.{lentLengths};
+ghost use Rattle.spec.specs.Colour.{bytesOf};
 ghost use Rattle.pipeline.specs.Work.{Kept};
-ghost use Rattle.quicklook.specs.Codes.{strategyOf, modeOf, withStrategy, withMode, usesNamed};
+ghost use Rattle.quicklook.specs.Codes.{strategyOf, usesNamed};
+ghost use Rattle.quicklook.specs.Calls as Calls;
 use super::codes;
 use super::replies;
 
 // The colours of two grey bands.
 #[no_mangle]
 pub extern "C" fn quicklook_compose(mode: u8, strategy: u8, band1: &[u8], band2: &[u8], rgb: &mut [u8]) -> u8
-    ensures reply {
-        λ r. ⌜ r ≡ number (withMode (modeOf mode) (λ m. withStrategy (strategyOf strategy) (λ s. createSyntheticRgbByModeAndStrategy m s (now (band1 .entry)) (now (band2 .entry)) (length (now (rgb .entry)))))) ⌝
-    }
-    ensures colours {
-        λ _. ⌜ now (rgb .exit) ≡ after (λ l. l) (withMode (modeOf mode) (λ m. withStrategy (strategyOf strategy) (λ s. createSyntheticRgbByModeAndStrategy m s (now (band1 .entry)) (now (band2 .entry)) (length (now (rgb .entry)))))) (now (rgb .entry)) ⌝
-    }
+    ensures reply { λ r. ⌜ r ≡ number (Calls.compose mode strategy (now (band1 .entry)) (now (band2 .entry)) (now (rgb .entry))) ⌝ }
+    ensures colours { λ _. ⌜ now (rgb .exit) ≡ after (λ l. l) (Calls.compose mode strategy (now (band1 .entry)) (now (band2 .entry)) (now (rgb .entry))) (now (rgb .entry)) ⌝ }
 {
     let codes::ModeCode::Names(mode) = codes::mode_of(mode) else {
         return 255;
@@ -32,26 +26,11 @@ pub extern "C" fn quicklook_compose(mode: u8, strategy: u8, band1: &[u8], band2:
 // The picture of two bands: two greys, then their colours. Band 1 counts as co-pol under Tamed.
 #[no_mangle]
 pub extern "C" fn quicklook_picture(strategy: u8, mode: u8, rows: usize, cols: usize, db1: &[f64], valid_mask1: &[u8], db2: &[f64], valid_mask2: &[u8], grey1: &mut [u8], grey2: &mut [u8], rgb: &mut [u8], work: &mut [f64]) -> u8
-    ensures reply {
-        λ r. ⌜ r ≡ number (withStrategy (strategyOf strategy) (λ s. withMode (modeOf mode) (λ m. syntheticRgbPicture s m rows cols (now («valid_mask1» .entry)) (now (db1 .entry)) (now («valid_mask2» .entry)) (now (db2 .entry))
-            (lentLengths (length (now (grey1 .entry))) (length (now (grey2 .entry))) (length (now (rgb .entry))) (length (now (work .entry))))))) ⌝
-    }
-    ensures grey1 {
-        λ _. ⌜ now (grey1 .exit) ≡ after (λ p. p .grey1) (withStrategy (strategyOf strategy) (λ s. withMode (modeOf mode) (λ m. syntheticRgbPicture s m rows cols (now («valid_mask1» .entry)) (now (db1 .entry)) (now («valid_mask2» .entry)) (now (db2 .entry))
-            (lentLengths (length (now (grey1 .entry))) (length (now (grey2 .entry))) (length (now (rgb .entry))) (length (now (work .entry))))))) (now (grey1 .entry)) ⌝
-    }
-    ensures grey2 {
-        λ _. ⌜ now (grey2 .exit) ≡ after (λ p. p .grey2) (withStrategy (strategyOf strategy) (λ s. withMode (modeOf mode) (λ m. syntheticRgbPicture s m rows cols (now («valid_mask1» .entry)) (now (db1 .entry)) (now («valid_mask2» .entry)) (now (db2 .entry))
-            (lentLengths (length (now (grey1 .entry))) (length (now (grey2 .entry))) (length (now (rgb .entry))) (length (now (work .entry))))))) (now (grey2 .entry)) ⌝
-    }
-    ensures colours {
-        λ _. ⌜ now (rgb .exit) ≡ after (λ p. bytesOf (p .colours)) (withStrategy (strategyOf strategy) (λ s. withMode (modeOf mode) (λ m. syntheticRgbPicture s m rows cols (now («valid_mask1» .entry)) (now (db1 .entry)) (now («valid_mask2» .entry)) (now (db2 .entry))
-            (lentLengths (length (now (grey1 .entry))) (length (now (grey2 .entry))) (length (now (rgb .entry))) (length (now (work .entry))))))) (now (rgb .entry)) ⌝
-    }
-    ensures work {
-        λ _. ⌜ Kept (usesNamed (strategyOf strategy) (withStrategy (strategyOf strategy) (λ s. withMode (modeOf mode) (λ m. syntheticRgbPicture s m rows cols (now («valid_mask1» .entry)) (now (db1 .entry)) (now («valid_mask2» .entry)) (now (db2 .entry))
-            (lentLengths (length (now (grey1 .entry))) (length (now (grey2 .entry))) (length (now (rgb .entry))) (length (now (work .entry)))))))) (now (work .entry)) (now (work .exit)) ⌝
-    }
+    ensures reply { λ r. ⌜ r ≡ number (Calls.picture strategy mode rows cols (now («valid_mask1» .entry)) (now (db1 .entry)) (now («valid_mask2» .entry)) (now (db2 .entry)) (now (grey1 .entry)) (now (grey2 .entry)) (now (rgb .entry)) (now (work .entry))) ⌝ }
+    ensures grey1 { λ _. ⌜ now (grey1 .exit) ≡ after (λ p. p .grey1) (Calls.picture strategy mode rows cols (now («valid_mask1» .entry)) (now (db1 .entry)) (now («valid_mask2» .entry)) (now (db2 .entry)) (now (grey1 .entry)) (now (grey2 .entry)) (now (rgb .entry)) (now (work .entry))) (now (grey1 .entry)) ⌝ }
+    ensures grey2 { λ _. ⌜ now (grey2 .exit) ≡ after (λ p. p .grey2) (Calls.picture strategy mode rows cols (now («valid_mask1» .entry)) (now (db1 .entry)) (now («valid_mask2» .entry)) (now (db2 .entry)) (now (grey1 .entry)) (now (grey2 .entry)) (now (rgb .entry)) (now (work .entry))) (now (grey2 .entry)) ⌝ }
+    ensures colours { λ _. ⌜ now (rgb .exit) ≡ after (λ p. bytesOf (p .colours)) (Calls.picture strategy mode rows cols (now («valid_mask1» .entry)) (now (db1 .entry)) (now («valid_mask2» .entry)) (now (db2 .entry)) (now (grey1 .entry)) (now (grey2 .entry)) (now (rgb .entry)) (now (work .entry))) (now (rgb .entry)) ⌝ }
+    ensures work { λ _. ⌜ Kept (usesNamed (strategyOf strategy) (Calls.picture strategy mode rows cols (now («valid_mask1» .entry)) (now (db1 .entry)) (now («valid_mask2» .entry)) (now (db2 .entry)) (now (grey1 .entry)) (now (grey2 .entry)) (now (rgb .entry)) (now (work .entry)))) (now (work .entry)) (now (work .exit)) ⌝ }
 {
     let codes::StrategyCode::Names(strategy) = codes::strategy_of(strategy) else {
         return 255;

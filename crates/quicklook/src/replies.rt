@@ -4,7 +4,7 @@ ghost use Rattle.spec.specs.Answer.{replyNumber};
 use types::Reply;
 
 // The number of a reply: 0 is done.
-pub fn reply_number(reply: Reply) -> u8
+pub(crate) fn reply_number(reply: Reply) -> u8
     ensures { λ r. ⌜ r ≡ replyNumber reply ⌝ }
 {
     match reply {

@@ -1,13 +1,12 @@
-// The refusals that any band can meet, each a test of one pass, and the four together in the order of the table of replies.
+// The refusals that any band can meet, each a test of one pass, and the first three together in the order of the table of replies.
 ghost use mathlib.Core.Path.{_≡_};
 ghost use mathlib.Core.List.{_∷_, []};
 ghost use Prim.Native.Nat.{_≤_};
-ghost use lib.Dec.{ltb};
 ghost use lib.ListN.{length};
 ghost use Rattle.spec.specs.Answer.{firstOf};
-ghost use Rattle.spec.specs.Lists.{any, highest};
-ghost use Rattle.spec.specs.Pixels.{on, pixels};
-ghost use Rattle.spec.specs.Refusals.{sidesRefused, lengthsRefused, marksRefused, decibelRefused, decibelsRefused};
+ghost use Rattle.spec.specs.Lists.{highest};
+ghost use Rattle.spec.specs.Pixels.{on};
+ghost use Rattle.spec.specs.Refusals.{sidesRefused, lengthsRefused, marksRefused, decibelRefused};
 
 // 1: whether a side is above 4,096.
 pub fn sides_refused(rows: usize, cols: usize) -> bool
@@ -32,7 +31,7 @@ pub fn lengths_refused(rows: usize, cols: usize, db: &[f64], valid_mask: &[u8]) 
 }
 
 // The greatest mark, 0 if there is none.
-pub fn greatest_mark(valid_mask: &[u8]) -> u8
+fn greatest_mark(valid_mask: &[u8]) -> u8
     ensures { λ r. ⌜ r ≡ highest 0 (now («valid_mask» .entry)) ⌝ }
 {
     let mut greatest: u8 = 0;
@@ -66,37 +65,6 @@ pub fn decibel_refused(v: f64) -> bool
     true
 }
 
-// 4: whether a valid dB is refused. Only valid dB is read.
-pub fn decibels_refused(db: &[f64], valid_mask: &[u8]) -> bool
-    requires { ⌜ length (now «valid_mask») ≡ length (now db) ⌝ }
-    ensures { λ r. ⌜ r ≡ decibelsRefused (pixels (now («valid_mask» .entry)) (now (db .entry))) ⌝ }
-{
-    let mut i: usize = 0;
-    while i < db.len() {
-        if valid_mask[i] != 0 {
-            if decibel_refused(db[i]) {
-                return true;
-            }
-        }
-        i += 1;
-    }
-    false
-}
-
-// Whether any mark is not 0.
-pub fn any_valid(valid_mask: &[u8]) -> bool
-    ensures { λ r. ⌜ r ≡ any (ltb 0) (now («valid_mask» .entry)) ⌝ }
-{
-    let mut i: usize = 0;
-    while i < valid_mask.len() {
-        if valid_mask[i] > 0 {
-            return true;
-        }
-        i += 1;
-    }
-    false
-}
-
 // The smallest of the numbers 1 to 3 that applies to a band, 0 if none does.
 pub fn shape_refusal(rows: usize, cols: usize, db: &[f64], valid_mask: &[u8]) -> u8
     ensures { λ r. ⌜ r ≡ firstOf 1 (
@@ -110,22 +78,6 @@ pub fn shape_refusal(rows: usize, cols: usize, db: &[f64], valid_mask: &[u8]) ->
     }
     if marks_refused(valid_mask) {
         return 3;
-    }
-    0
-}
-
-// The smallest of the numbers 1 to 4 that applies to a band, 0 if none does.
-pub fn band_refusal(rows: usize, cols: usize, db: &[f64], valid_mask: &[u8]) -> u8
-    ensures { λ r. ⌜ r ≡ firstOf 1 (
-        sidesRefused rows cols ∷ lengthsRefused rows cols (now («valid_mask» .entry)) (now (db .entry)) ∷ marksRefused (now («valid_mask» .entry))
-        ∷ decibelsRefused (pixels (now («valid_mask» .entry)) (now (db .entry))) ∷ []) ⌝ }
-{
-    let refusal = shape_refusal(rows, cols, db, valid_mask);
-    if refusal != 0 {
-        return refusal;
-    }
-    if decibels_refused(db, valid_mask) {
-        return 4;
     }
     0
 }

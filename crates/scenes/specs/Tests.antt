@@ -9,7 +9,8 @@ use Rattle.types.specs.declared.AutoscaleStrategy.the-variants.{Standard, Robus
 use Rattle.types.specs.declared.HistogramStats.{HistogramStats}
 use Rattle.spec.specs.Answer.{Answer, refused, done}
 use Rattle.spec.specs.Window.{windowOf, readWindow}
-use Rattle.spec.specs.Picture.{Picture, Lent}
+use Rattle.types.specs.declared.Lent.{Lent}
+use Rattle.spec.specs.Picture.{Picture}
 use Rattle.spec.specs.Colour.{bytesOf}
 
 -- equal lists of numbers
@@ -63,4 +64,4 @@ pictureBytes (done p) = 0 ∷ p .grey1 ++ p .grey2 ++ bytesOf (p .colours)
 
 -- lengths lent to a picture call
 abbrev pub lent : ℕ → ℕ → ℕ → ℕ → Lent
-lent a b c w = record { grey1 = a; grey2 = b; colours = c; work = w }
+lent a b c w = record { grey1 = a; grey2 = b; rgb = c; work = w }

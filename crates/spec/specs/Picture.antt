@@ -5,6 +5,7 @@ use mathlib.Core.List.{List, [], _∷_}
 use lib.Ieee.{Float}
 use Rattle.types.specs.declared.AutoscaleStrategy.{AutoscaleStrategy}
 use Rattle.types.specs.declared.SyntheticRgbMode.{SyntheticRgbMode}
+use Rattle.types.specs.declared.Lent.{Lent}
 use Rattle.types.specs.declared.Rgb.{Rgb}
 use Rattle.types.specs.declared.WindowAnswer.{WindowAnswer}
 use Rattle.spec.specs.Answer.{Answer, firstOf, answer}
@@ -24,13 +25,6 @@ pub record Picture : Type 0 where
   pub grey2 : List ℕ
   pub colours : List Rgb
 
--- the lengths lent: two grey outputs, colours, work
-pub record Lent : Type 0 where
-  pub grey1 : ℕ
-  pub grey2 : ℕ
-  pub colours : ℕ
-  pub work : ℕ
-
 -- the U8 greys of one band of a picture; Tamed: "no stretch"
 unfoldable pub pictureGreys : AutoscaleStrategy → ℕ → ℕ → List Pixel → WindowAnswer → List ℕ
 pictureGreys strategy rows cols px w =
@@ -47,7 +41,7 @@ unfoldable pub pictureTests :
 pictureTests strategy rows cols marks1 db1 marks2 db2 lent px1 px2 w1 w2 =
     sidesRefused rows cols
     ∷ (lengthsRefused rows cols marks1 db1 || lengthsRefused rows cols marks2 db2 || unlike (lent .grey1) (rows * cols)
-       || unlike (lent .grey2) (rows * cols) || unlike (lent .colours) (3 * (rows * cols)) || workRefused strategy (lent .work))
+       || unlike (lent .grey2) (rows * cols) || unlike (lent .rgb) (3 * (rows * cols)) || workRefused strategy (lent .work))
     ∷ (marksRefused marks1 || marksRefused marks2)
     ∷ (decibelsRefused px1 || decibelsRefused px2)
     ∷ (tilesRefused strategy rows cols px1 || tilesRefused strategy rows cols px2)

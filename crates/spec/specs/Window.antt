@@ -102,8 +102,11 @@ chooseClip Tamed s = between (s .p25) (s .p99) one64
 chooseClip Default s = between (s .p05) (s .p95) one64
 
 -- "blank exactly if no refusal applies and no mark is 1"
+abbrev pub openWindow : ℕ → Clip → WindowAnswer
+openWindow valid c = cond (eqb valid 0) Blank (opened c)
+
 unfoldable pub windowOf : AutoscaleStrategy → HistogramStats → WindowAnswer
-windowOf strategy s = cond (eqb (s .«valid_count») 0) Blank (opened (chooseClip strategy s))
+windowOf strategy s = openWindow (s .«valid_count») (chooseClip strategy s)
 
 -- "The Tamed picture path .. low min(p02, p05) co-pol or p05 cross-pol, high p99"
 unfoldable pub tamedClip : Bool → HistogramStats → Clip
@@ -111,8 +114,11 @@ tamedClip true s = between (minFloat (s .p02) (s .p05)) (s .p99) one64
 tamedClip false s = between (s .p05) (s .p99) one64
 
 -- the window that a picture paints a band with
+abbrev pub pictureClip : AutoscaleStrategy → Bool → HistogramStats → Clip
+pictureClip strategy copol s = cond (isTamed strategy) (tamedClip copol s) (chooseClip strategy s)
+
 unfoldable pub pictureWindow : AutoscaleStrategy → Bool → HistogramStats → WindowAnswer
-pictureWindow strategy copol s = cond (eqb (s .«valid_count») 0) Blank (opened (cond (isTamed strategy) (tamedClip copol s) (chooseClip strategy s)))
+pictureWindow strategy copol s = openWindow (s .«valid_count») (pictureClip strategy copol s)
 
 -- 6: "whose chosen gamma is not 1.0"
 unfoldable pub gammaRefused : WindowAnswer → Bool

@@ -19,7 +19,7 @@ fn round_byte(z: f32) -> u8
 }
 
 // x between the ends lo and hi, as a byte: 0 unless lo is below hi.
-pub fn stretch_byte(x: u16, lo: u16, hi: u16) -> u8
+fn stretch_byte(x: u16, lo: u16, hi: u16) -> u8
     ensures { λ r. ⌜ r ≡ stretchByte lo hi x ⌝ }
 {
     if lo < hi {
@@ -48,7 +48,7 @@ pub struct Ends {
 }
 
 // 65535 and 0 of an empty list.
-pub fn ends_of(data: &[u16]) -> Ends
+fn ends_of(data: &[u16]) -> Ends
     ensures { λ r. ⌜ (r .lo ≡ lowest 65535 (now («data» .entry))) × (r .hi ≡ highest 0 (now («data» .entry))) ⌝ }
 {
     let mut lo = 65535;

@@ -10,7 +10,7 @@ use crate::Composition;
 use crate::casts;
 
 // The place of r / g, from a place on that it reaches.
-pub fn rank_from(thresholds: &[u16], r: u64, g: u64, from: usize) -> usize
+fn rank_from(thresholds: &[u16], r: u64, g: u64, from: usize) -> usize
     requires { ⌜ (r ≤ 263) × (g ≤ 263) × Reached (now thresholds) r g from ⌝ }
     ensures { λ k. ⌜ Rank (now (thresholds .entry)) r g k ⌝ }
 {
@@ -27,7 +27,7 @@ pub fn rank_from(thresholds: &[u16], r: u64, g: u64, from: usize) -> usize
 }
 
 // What stabilizes the ratio.
-pub fn epsilon(kind: Composition) -> u64
+fn epsilon(kind: Composition) -> u64
     ensures { λ r. ⌜ (r ≡ epsilon kind) × (r ≤ 8) ⌝ }
 {
     match kind {
@@ -37,7 +37,7 @@ pub fn epsilon(kind: Composition) -> u64
 }
 
 // Whether a pixel has no blue whatever its ratio.
-pub fn is_dark(kind: Composition, v1: u8, v2: u8) -> bool
+fn is_dark(kind: Composition, v1: u8, v2: u8) -> bool
     ensures { λ r. ⌜ r ≡ isDark kind v1 v2 ⌝ }
 {
     match kind {
@@ -47,7 +47,7 @@ pub fn is_dark(kind: Composition, v1: u8, v2: u8) -> bool
 }
 
 // The place of the ratio of a red and a green, from a place on that it reaches.
-pub fn place_from(kind: Composition, thresholds: &[u16], red: u8, green: u8, from: usize) -> usize
+pub(crate) fn place_from(kind: Composition, thresholds: &[u16], red: u8, green: u8, from: usize) -> usize
     requires { ⌜ Reached (now thresholds) (red + epsilon kind) (green + epsilon kind) from ⌝ }
     ensures { λ k. ⌜ Rank (now (thresholds .entry)) (red + epsilon kind) (green + epsilon kind) k ⌝ }
 {
@@ -56,7 +56,7 @@ pub fn place_from(kind: Composition, thresholds: &[u16], red: u8, green: u8, fro
 }
 
 // The blue of a pixel whose ratio stands at a place.
-pub fn blue_at(kind: Composition, v1: u8, v2: u8, place: usize) -> u8
+pub(crate) fn blue_at(kind: Composition, v1: u8, v2: u8, place: usize) -> u8
     requires { ⌜ place < 256 ⌝ }
     ensures { λ b. ⌜ b ≡ cond (isDark kind v1 v2) 0 place ⌝ }
 {
@@ -71,7 +71,7 @@ fn start(v1: usize, place: usize) -> usize
 }
 
 // The blue of every pair of bytes.
-pub fn blue_cells(kind: Composition, red: &[u8; 256], green: &[u8; 256], thresholds: &[u16], cells: &mut [u8])
+pub(crate) fn blue_cells(kind: Composition, red: &[u8; 256], green: &[u8; 256], thresholds: &[u16], cells: &mut [u8])
     requires { ⌜ Palette kind (now red) (now green) (now thresholds) × (length (now cells) ≡ 65536) ⌝ }
     ensures { λ _. ⌜ Cells kind (now (cells .exit)) ⌝ }
 {

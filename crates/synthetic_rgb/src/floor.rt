@@ -62,7 +62,7 @@ fn count_both(band1_data: &[u8], band2_data: &[u8], histogram: &mut [u32])
 }
 
 // The floor of two bands.
-pub fn floor_level(band1_data: &[u8], band2_data: &[u8]) -> u8
+pub(crate) fn floor_level(band1_data: &[u8], band2_data: &[u8]) -> u8
     requires { ⌜ (length (now band1_data) ≤ 16777216) × (length (now band2_data) ≤ 16777216) ⌝ }
     ensures { λ f. ⌜ f ≡ floorLevel (now (band1_data .entry)) (now (band2_data .entry)) ⌝ }
 {

@@ -19,7 +19,7 @@ pub enum Composition {
 }
 
 // The default colours.
-pub fn create_synthetic_rgb(band1_data: &[u8], band2_data: &[u8], rgb_data: &mut [u8])
+fn create_synthetic_rgb(band1_data: &[u8], band2_data: &[u8], rgb_data: &mut [u8])
     requires { ⌜ (length (now band2_data) ≡ length (now band1_data)) × (length (now rgb_data) ≡ 3 * length (now band1_data)) ⌝ }
     ensures { λ _. ⌜ now (rgb_data .exit) ≡ bytesOf (zipWith plain (now (band1_data .entry)) (now (band2_data .entry))) ⌝ }
 {
@@ -30,7 +30,7 @@ pub fn create_synthetic_rgb(band1_data: &[u8], band2_data: &[u8], rgb_data: &mut
 }
 
 // The colours of one mode: "all modes agree".
-pub fn create_synthetic_rgb_by_mode(mode: SyntheticRgbMode, band1_data: &[u8], band2_data: &[u8], rgb_data: &mut [u8])
+fn create_synthetic_rgb_by_mode(mode: SyntheticRgbMode, band1_data: &[u8], band2_data: &[u8], rgb_data: &mut [u8])
     requires { ⌜ (length (now band2_data) ≡ length (now band1_data)) × (length (now rgb_data) ≡ 3 * length (now band1_data)) ⌝ }
     ensures { λ _. ⌜ now (rgb_data .exit) ≡ bytesOf (zipWith plain (now (band1_data .entry)) (now (band2_data .entry))) ⌝ }
 {
@@ -43,7 +43,7 @@ pub fn create_synthetic_rgb_by_mode(mode: SyntheticRgbMode, band1_data: &[u8], b
 }
 
 // The suppressed colours above the floor of the two bands.
-pub fn create_synthetic_rgb_suppressed(band1_data: &[u8], band2_data: &[u8], rgb_data: &mut [u8])
+fn create_synthetic_rgb_suppressed(band1_data: &[u8], band2_data: &[u8], rgb_data: &mut [u8])
     requires { ⌜ (length (now band2_data) ≡ length (now band1_data)) × (length (now rgb_data) ≡ 3 * length (now band1_data)) × (length (now band1_data) ≤ 16777216) ⌝ }
     ensures { λ _. ⌜ now (rgb_data .exit) ≡ bytesOf (zipWith (suppressed (floorLevel (now (band1_data .entry)) (now (band2_data .entry)))) (now (band1_data .entry)) (now (band2_data .entry))) ⌝ }
 {

@@ -43,7 +43,7 @@ fn colour_at(kind: Composition, red: &[u8; 256], green: &[u8; 256], thresholds: 
 }
 
 // The colours, with blue worked out for each pixel.
-pub fn by_pixel(kind: Composition, red: &[u8; 256], green: &[u8; 256], thresholds: &[u16], band1_data: &[u8], band2_data: &[u8], rgb_data: &mut [u8])
+fn by_pixel(kind: Composition, red: &[u8; 256], green: &[u8; 256], thresholds: &[u16], band1_data: &[u8], band2_data: &[u8], rgb_data: &mut [u8])
     requires { ⌜ Palette kind (now red) (now green) (now thresholds) × (length (now band2_data) ≡ length (now band1_data)) × (length (now rgb_data) ≡ 3 * length (now band1_data)) ⌝ }
     ensures { λ _. ⌜ now (rgb_data .exit) ≡ bytesOf (zipWith (colourAt kind) (now (band1_data .entry)) (now (band2_data .entry))) ⌝ }
 {
@@ -58,7 +58,7 @@ pub fn by_pixel(kind: Composition, red: &[u8; 256], green: &[u8; 256], threshold
 }
 
 // The colours that three tables show.
-pub fn by_cells(red: &[u8; 256], green: &[u8; 256], cells: &[u8], band1_data: &[u8], band2_data: &[u8], rgb_data: &mut [u8])
+fn by_cells(red: &[u8; 256], green: &[u8; 256], cells: &[u8], band1_data: &[u8], band2_data: &[u8], rgb_data: &mut [u8])
     requires { ⌜ (length (now cells) ≡ 65536) × (length (now band2_data) ≡ length (now band1_data)) × (length (now rgb_data) ≡ 3 * length (now band1_data)) ⌝ }
     ensures { λ _. ⌜ now (rgb_data .exit) ≡ bytesOf (zipWith (shown (now (red .entry)) (now (green .entry)) (now (cells .entry))) (now (band1_data .entry)) (now (band2_data .entry))) ⌝ }
 {
@@ -85,7 +85,7 @@ fn with_cells(kind: Composition, red: &[u8; 256], green: &[u8; 256], thresholds:
 }
 
 // The colours of two bands: a short list does not pay for 65,536 cells.
-pub fn colours(kind: Composition, red: &[u8; 256], green: &[u8; 256], thresholds: &[u16], band1_data: &[u8], band2_data: &[u8], rgb_data: &mut [u8])
+pub(crate) fn colours(kind: Composition, red: &[u8; 256], green: &[u8; 256], thresholds: &[u16], band1_data: &[u8], band2_data: &[u8], rgb_data: &mut [u8])
     requires { ⌜ Palette kind (now red) (now green) (now thresholds) × (length (now band2_data) ≡ length (now band1_data)) × (length (now rgb_data) ≡ 3 * length (now band1_data)) ⌝ }
     ensures { λ _. ⌜ now (rgb_data .exit) ≡ bytesOf (zipWith (colourAt kind) (now (band1_data .entry)) (now (band2_data .entry))) ⌝ }
 {

@@ -73,6 +73,28 @@ pub enum WindowAnswer {
     Refused(u8),
 }
 
+// A window's floats, as painting takes them.
+pub struct WindowFloats {
+    pub low: f64,
+    pub high: f64,
+    pub range: f64,
+    pub gamma: f64,
+}
+
+// The sides of a raster.
+pub struct Sides {
+    pub rows: usize,
+    pub cols: usize,
+}
+
+// The lengths lent to a picture: two grey outputs, colours, work.
+pub struct Lent {
+    pub grey1: usize,
+    pub grey2: usize,
+    pub rgb: usize,
+    pub work: usize,
+}
+
 // What pass one knows of the values so far.
 pub struct Moments {
     pub count: u32,

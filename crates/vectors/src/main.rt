@@ -5,7 +5,10 @@ ghost use Prim.Native.Nat.{_*_, _≤_, _<_};
 ghost use lib.ListN.{length};
 ghost use Rattle.clahe.specs.Band.{Raster};
 use libc::STDOUT_FILENO;
+use clahe::columns::Column;
+use types::Sides;
 use types::TilePosition;
+use types::WindowFloats;
 
 // ---- the numbers of a record; 0 beyond its end
 
@@ -250,12 +253,12 @@ fn read_counts(b: &[u8], list: List, to: &mut [u32])
 fn sums_of_counts(area: usize, hist: &mut [u32], sums: &mut [f64]) -> bool
     requires { ⌜ (area ≤ 16777216) × (length (now hist) ≡ 256) × (length (now sums) ≡ 256) ⌝ }
 {
-    if clahe::sums::total(hist) >= 2147483648 {
+    if clahe::sums::sum_of(hist) >= 2147483648 {
         return false;
     }
     let limit = clahe::clip::threshold(area);
     if limit >= 0.0 {
-        clahe::clip::clip(hist, limit);
+        clahe::clip::clip_at(hist, limit);
         clahe::sums::write_sums(hist, sums);
         return true;
     }
@@ -282,6 +285,11 @@ fn replay_tile(b: &[u8]) -> bool {
     is_last(b, expected) && expected.count == 256 && are_bits(b, expected, 0, &sums)
 }
 
+// The window of values that are normalised already.
+fn unit_window() -> WindowFloats {
+    WindowFloats { low: 0.0, high: 1.0, range: 1.0, gamma: 1.0 }
+}
+
 // Whether a tile of a normalised band has the sums that stand in a list from a place on.
 fn is_tile(b: &[u8], rows: usize, cols: usize, db: &[f64], valid_mask: &[u8], k: usize, expected: List, from: usize) -> bool
     requires { ⌜ Raster rows cols (now «valid_mask») (now db) × (from ≤ 768) ⌝ }
@@ -290,7 +298,7 @@ fn is_tile(b: &[u8], rows: usize, cols: usize, db: &[f64], valid_mask: &[u8], k:
         return false;
     }
     let mut sums = [0.0; 256];
-    clahe::sums::tile_sums(db, valid_mask, rows, cols, 0.0, 1.0, 1.0, k, &mut sums);
+    clahe::sums::tile_sums(db, valid_mask, Sides { rows, cols }, unit_window(), k, &mut sums);
     are_bits(b, expected, from, &sums)
 }
 
@@ -304,10 +312,10 @@ fn are_tiles(b: &[u8], rows: usize, cols: usize, db: &[f64], valid_mask: &[u8], 
 }
 
 // A normalised value at two positions; NaN if one of them is not among the tiles.
-fn equalised_at(work: &[f64], y: TilePosition, x: TilePosition, u: f64) -> f64
+fn equalised_at(work: &[f64], y: TilePosition, x: Column, u: f64) -> f64
     requires { ⌜ length (now work) ≡ 16384 ⌝ }
 {
-    if y.first < 8 && y.second < 8 && x.first < 8 && x.second < 8 {
+    if y.first < 8 && y.second < 8 && x.first < 8 {
         return clahe::sampling::sample(work, y, x, clahe::counts::level_of(u));
     }
     0.0 / 0.0
@@ -322,7 +330,7 @@ fn equalised(work: &[f64], rows: usize, cols: usize, r: usize, c: usize, u: f64)
     }
     let y = clahe::sampling::tile_position(clahe::tiles::tile_side(rows), r);
     let x = clahe::sampling::tile_position(clahe::tiles::tile_side(cols), c);
-    equalised_at(work, y, x, u)
+    equalised_at(work, y, Column { first: x.first, weight: x.weight }, u)
 }
 
 // Invalid pixels are 0.
@@ -352,7 +360,7 @@ fn is_equalised(b: &[u8], rows: usize, cols: usize, db: &[f64], valid_mask: &[u8
         return false;
     }
     let mut work = [0.0; 16384];
-    clahe::sums::write_tables(db, valid_mask, rows, cols, 0.0, 1.0, 1.0, &mut work);
+    clahe::sums::write_tables(db, valid_mask, Sides { rows, cols }, unit_window(), &mut work);
     are_equalised(b, &work, rows, cols, db, valid_mask, expected)
 }
 

@@ -11,8 +11,8 @@ returns c = no-gamma (c .before .args .window) (c .match .keys2)
 
 returns-2 : tie.Need-returns-2
 returns-2 c =
-    let g = c .before .before .window .given in
-    ap not (c .is-painted .ensures) ∙ gamma-other (c .before .before .before .before .args .window) (g .0 .0) (g .0 .1 .0) (g .0 .1 .1 .0) (g .0 .1 .1 .1 .0) (g .1)
+    let g = c .before .window .given in
+    gamma-other (c .before .before .before .args .window) (g .0 .0) (g .0 .1 .0) (g .0 .1 .1 .0) (g .0 .1 .1 .1 .0) (g .1)
 
 pub gamma-refused-spec : {M : Type 1} → statement M
-gamma-refused-spec = tie.close (tie.spec (λ c. search needs) returns (λ c κs. search needs) returns-2)
+gamma-refused-spec = tie.close (tie.spec (λ c. search needs) returns returns-2)

@@ -1,47 +1,43 @@
 -- `pipeline::autoscale_db_image_to_u16` meets its contract: refused by number, or the greys. Assumes nothing.
-use denote.Ref.{now}
-use lib.ListN.{length}
 use mathlib.Core.List.{List, []}
 use Prim.Native.Nat.{ℕ}
+use borrow.Author.Needs.{needs}
+use denote.Ref.{now}
 use Rattle.types.specs.declared.WindowAnswer.{WindowAnswer}
 use Rattle.spec.specs.Answer.{replyNumber}
 use Rattle.spec.specs.Grey.{values, autoscaleDbImageToU16}
 use Rattle.spec.specs.Pixels.{pixels}
 use Rattle.spec.specs.Value.{full16}
-use Rattle.pipeline.proofs.Greys.{grey-refused, grey-asks, grey-done}
-use borrow.Author.Needs.{needs}
+use Rattle.pipeline.proofs.Greys.{grey-refused, grey-asks, grey-opens, grey-done}
 use Rattle.pipeline.proofs.autoscale_db_image_to_u16.Statement.{statement}
 use Rattle.pipeline.proofs.autoscale_db_image_to_u16.Tie as tie
 
 returns : tie.Need-returns
 unfolding autoscaleDbImageToU16 replyNumber
 returns c =
-    let k = c .before in
-    let w = k .before .before in
-    let a = w .before .before .before .before .before .args in
-    let px = pixels (now (a .valid-mask)) (now (a .db)) in
-    let g : WindowAnswer → List ℕ = λ v. values full16 (a .strategy) (a .rows) (a .cols) px v in
-    grey-refused (a .strategy) (a .rows) (a .cols) (now (a .valid-mask)) (now (a .db)) (length (now (a .out))) (length (now (a .work))) g (w .grey-window .result) (w .grey-window .ensures)
-    (k .window .given .0 .0) (now (a .out)) (now (a .work)) (k .window .given .1)
+    let at-k = c .before in
+    let at-window = at-k .before .before in
+    let a = at-window .before .before .before .before .before .args in
+    let g : WindowAnswer → List ℕ = λ v. values full16 (a .strategy) (a .rows) (a .cols) (pixels (now (a .valid-mask)) (now (a .db))) v in
+    grey-refused (a .strategy) (a .rows) (a .cols) (now (a .valid-mask)) (now (a .db)) (now (a .out)) (now (a .work)) g _ (at-window .grey-window .ensures) _ (at-k .window .given .1)
 
-grey-u16-requires : tie.Need-grey-u16-requires
-grey-u16-requires c κs =
-    let t = c .before .before in
-    let w = t .before in
-    grey-asks _ _ _ _ _ _ _ (λ v. []) (w .grey-window .result) (w .grey-window .ensures) (t .match .keys2)
+values-u16-requires : tie.Need-values-u16-requires
+values-u16-requires c κs =
+    let at-match = c .before .before in
+    let at-window = at-match .before in
+    let a = at-window .before .before .before .before .before .args in
+    (grey-asks (a .strategy) (a .rows) (a .cols) (now (a .valid-mask)) (now (a .db)) (now (a .out)) (now (a .work)) (λ v. []) _ (at-window .grey-window .ensures) (at-match .match .keys2),
+    grey-opens (a .strategy) (a .rows) (a .cols) (now (a .valid-mask)) (now (a .db)) (now (a .out)) (now (a .work)) (λ v. []) _ (at-window .grey-window .ensures) (at-match .match .keys2))
 
 returns-2 : tie.Need-returns-2
-unfolding autoscaleDbImageToU16
+unfolding autoscaleDbImageToU16 replyNumber
 returns-2 c =
-    let q = c .before .before .before .before in
-    let t = q .before .before .before in
-    let w = t .before in
-    let a = w .before .before .before .before .before .args in
-    let px = pixels (now (a .valid-mask)) (now (a .db)) in
-    let g : WindowAnswer → List ℕ = λ v. values full16 (a .strategy) (a .rows) (a .cols) px v in
-    let l = q .grey-u16 in
-    grey-done (a .strategy) (a .rows) (a .cols) (now (a .valid-mask)) (now (a .db)) (length (now (a .out))) (length (now (a .work))) g (w .grey-window .result) (w .grey-window .ensures)
-    (t .match .keys2) (replyNumber (l .result)) (now (a .out)) (l .last .1 .1 .1 .1 .1 .1 .0) (now (a .work)) (l .last .1 .1 .1 .1 .1 .1 .1 .0) (l .ensures .0) (l .ensures .1 .0) (l .ensures .1 .1)
+    let at-greys = c .before .before .before .before in
+    let at-match = at-greys .before .before .before in
+    let at-window = at-match .before in
+    let a = at-window .before .before .before .before .before .args in
+    let g : WindowAnswer → List ℕ = λ v. values full16 (a .strategy) (a .rows) (a .cols) (pixels (now (a .valid-mask)) (now (a .db))) v in
+    grey-done (a .strategy) (a .rows) (a .cols) (now (a .valid-mask)) (now (a .db)) (now (a .out)) (now (a .work)) g _ (at-window .grey-window .ensures) (at-match .match .keys2) _ _ (at-greys .values-u16 .ensures .0) (at-greys .values-u16 .ensures .1)
 
 pub autoscale-db-image-to-u16-spec : {M : Type 1} → statement M
 autoscale-db-image-to-u16-spec =
@@ -50,7 +46,7 @@ autoscale-db-image-to-u16-spec =
     (λ c κs. search needs)
     (λ c. search needs)
     returns
-    grey-u16-requires
+    values-u16-requires
     (λ c. search needs)
     (λ c. search needs)
     returns-2)

@@ -1,44 +1,54 @@
 -- `pipeline::synthetic_rgb_picture` meets its contract: refused by number, or the greys and the colours. Assumes nothing.
-use denote.Ref.{now}
-use lib.ListN.{length}
+use mathlib.Core.Path.{sym, ap, _∙_}
+use Prim.Native.Nat.{ℕ, _*_}
+use native.Mathlib.Nat.{mul-le-mul}
+use native.Mathlib.Omega.{arith}
+use borrow.Author.Needs.{needs}
 use Rattle.spec.specs.Answer.{replyNumber}
 use Rattle.spec.specs.Picture.{syntheticRgbPicture}
-use Rattle.pipeline.specs.Windows.{lentLengths}
-use Rattle.pipeline.proofs.Pictures.{picture-refused, picture-asks, picture-done}
-use borrow.Author.Needs.{needs}
+use Rattle.pipeline.proofs.Pictures.{picture-refused, picture-asks, picture-opens, picture-done, kept-twice}
 use Rattle.pipeline.proofs.synthetic_rgb_picture.Statement.{statement}
 use Rattle.pipeline.proofs.synthetic_rgb_picture.Tie as tie
 
-paint-picture-requires : tie.Need-paint-picture-requires
-paint-picture-requires c κs =
-    let g = c .before .before .before .before .before .answer2 .given in
-    let w = c .before .before .before .before .before .before .before in
-    let a = w .before .before .before .before .before .before .before .before .before .args in
-    picture-asks (a .strategy) (a .rows) (a .cols) (now (a .valid-mask1)) (now (a .db1)) (now (a .valid-mask2)) (now (a .db2)) (now (a .grey1)) (now (a .grey2)) (now (a .rgb)) (now (a .work))
-    (lentLengths (length (now (a .grey1))) (length (now (a .grey2))) (length (now (a .rgb))) (length (now (a .work)))) (w .picture-windows .result) (w .picture-windows .ensures)
-    (g .0 .0) (g .0 .1 .0) (g .1)
+picture-greys-requires : tie.Need-picture-greys-requires
+picture-greys-requires c κs =
+    let at-windows = c .before .before .before in
+    let e = at-windows .before .before .picture-windows .ensures in
+    let g = at-windows .window1 .given in
+    (picture-asks _ _ _ _ _ _ _ _ _ e _ _ (g .1) .band1, picture-opens _ _ _ _ _ _ _ _ _ e _ _ (g .1) .0)
+
+picture-greys-requires-2 : tie.Need-picture-greys-requires-2
+picture-greys-requires-2 c κs =
+    let at-first = c .before .before .before .before .before .before in
+    let at-windows = at-first .before .before .before .before in
+    let e = at-windows .before .before .picture-windows .ensures in
+    let g = at-windows .window1 .given in
+    let p = picture-asks _ _ _ _ _ _ _ _ _ e _ _ (g .1) .band2 in
+    (record { band = p .band; out-length = p .out-length; work-length = λ i. at-first .picture-greys .ensures .1 .size ∙ p .work-length i }, picture-opens _ _ _ _ _ _ _ _ _ e _ _ (g .1) .1)
+
+compose-by-mode-and-strategy-requires : tie.Need-compose-by-mode-and-strategy-requires
+compose-by-mode-and-strategy-requires c κs =
+    let at-second = c .before .before .before .before .before .before .before in
+    let at-first = at-second .before .before .before .before .before .before .before in
+    let at-windows = at-first .before .before .before .before in
+    let p = picture-asks _ _ _ _ _ _ _ _ _ (at-windows .before .before .picture-windows .ensures) _ _ (at-windows .window1 .given .1) in
+    let l1 = at-first .picture-greys .kept .1 .1 .1 .1 .1 .0 ∙ p .band1 .out-length in
+    let l2 = at-second .picture-greys2 .kept .1 .1 .1 .1 .1 .0 ∙ p .band2 .out-length in
+    (l2 ∙ sym l1, p .rgb-length ∙ ap (λ (n : ℕ). 3 * n) (sym l1), omega (arith, l1, mul-le-mul (p .band1 .band .tall) (p .band1 .band .wide)))
 
 returns : tie.Need-returns
 unfolding syntheticRgbPicture replyNumber
-returns c =
-    let g = c .before .answer .given in
-    let w = c .before .before .before in
-    let a = w .before .before .before .before .before .before .before .before .before .args in
-    picture-refused (a .strategy) (a .rows) (a .cols) (now (a .valid-mask1)) (now (a .db1)) (now (a .valid-mask2)) (now (a .db2)) (now (a .grey1)) (now (a .grey2)) (now (a .rgb)) (now (a .work))
-    (lentLengths (length (now (a .grey1))) (length (now (a .grey2))) (length (now (a .rgb))) (length (now (a .work)))) (w .picture-windows .result) (w .picture-windows .ensures)
-    (g .0 .0) (g .1)
+returns c = picture-refused _ _ _ _ _ _ _ _ _ (c .before .before .before .picture-windows .ensures) _ (c .before .k .given .1) _ _ _ _
 
 returns-2 : tie.Need-returns-2
 unfolding syntheticRgbPicture replyNumber
 returns-2 c =
-    let l = c .before .before .before .before .before .before .before .before .paint-picture in
-    let g = c .before .before .before .before .before .before .before .before .before .before .before .before .before .before .answer2 .given in
-    let w = c .before .before .before .before .before .before .before .before .before .before .before .before .before .before .before .before in
-    let a = w .before .before .before .before .before .before .before .before .before .args in
-    picture-done (a .strategy) (a .rows) (a .cols) (now (a .valid-mask1)) (now (a .db1)) (now (a .valid-mask2)) (now (a .db2)) (now (a .grey1)) (now (a .grey2)) (now (a .rgb)) (now (a .work))
-    (lentLengths (length (now (a .grey1))) (length (now (a .grey2))) (length (now (a .rgb))) (length (now (a .work)))) (w .picture-windows .result) (w .picture-windows .ensures)
-    (g .0 .0) (g .0 .1 .0) (g .1) (l .last .1 .1 .1 .1 .1 .1 .1 .1 .1 .1 .0) (l .last .1 .1 .1 .1 .1 .1 .1 .1 .1 .1 .1 .0) (l .last .1 .1 .1 .1 .1 .1 .1 .1 .1 .1 .1 .1 .0) (l .last .1 .1 .1 .1 .1 .1 .1 .1 .1 .1 .1 .1 .1 .0)
-    (l .ensures .0) (l .ensures .1 .0) (l .ensures .1 .1 .0) (l .ensures .1 .1 .1)
+    let at-colours = c .before .before in
+    let at-second = at-colours .before .before .before .before .before .before .before .before in
+    let at-first = at-second .before .before .before .before .before .before .before in
+    let at-windows = at-first .before .before .before .before in
+    picture-done _ _ _ _ _ _ _ _ _ (at-windows .before .before .picture-windows .ensures) _ _ (at-windows .window1 .given .1) _ _ _ _ _ _ _ _
+    (at-first .picture-greys .ensures .0) (at-second .picture-greys2 .ensures .0) (at-colours .compose-by-mode-and-strategy .ensures) (kept-twice _ _ _ _ (at-first .picture-greys .ensures .1) (at-second .picture-greys2 .ensures .1))
 
 pub synthetic-rgb-picture-spec : {M : Type 1} → statement M
 synthetic-rgb-picture-spec =
@@ -47,7 +57,9 @@ synthetic-rgb-picture-spec =
     (λ c κs. search needs)
     (λ c. search needs)
     (λ c. search needs)
-    paint-picture-requires
+    picture-greys-requires
+    picture-greys-requires-2
+    compose-by-mode-and-strategy-requires
     returns
     (λ c. search needs)
     (λ c. search needs)

@@ -18,11 +18,11 @@ use Rattle.autoscale.proofs.paint.paint_u16.Statement.{statement}
 use Rattle.autoscale.proofs.paint.paint_u16.Tie as tie
 
 abbrev Inv-loop : tie.InvT-loop
-Inv-loop db marks low high range out₀ i₀ out i =
-    (i ≤ length out₀) × (length out ≡ length out₀) × (take i out ≡ map (paint full16 low high range) (take i (pixels marks db)))
+Inv-loop db marks window out₀ i₀ out i =
+    (i ≤ length out₀) × (length out ≡ length out₀) × (take i out ≡ map (paint full16 (window .low) (window .high) (window .range)) (take i (pixels marks db)))
 
 abbrev μ-loop : tie.MeasureT-loop
-μ-loop db marks low high range out₀ i₀ out i = length out₀ - i
+μ-loop db marks window out₀ i₀ out i = length out₀ - i
 
 loop-holds : tie.Need-loop-holds Inv-loop μ-loop
 loop-holds c = (omega arith, refl, refl)
@@ -36,11 +36,11 @@ loop-again c =
     let i = l .loop .i in
     let k = getD (now (a .valid-mask)) (l .loop .i) 0 in
     let x = c .masked-u16 .result in
-    let g = paint full16 (a .low) (a .high) (a .range) in
+    let g = paint full16 (a .window .low) (a .window .high) (a .window .range) in
     let e = pixels-length (now (a .valid-mask)) (now (a .db)) (omega arith) in (
       omega arith,
       length-set o i x ∙ l .loop .inv .1,
-      step g off (pixels (now (a .valid-mask)) (now (a .db))) o i x (omega arith) (omega arith) (c .masked-u16 .ensures ∙ ap (λ (y : ℕ). cond (eqb k 0) 0 y) (u .value-of-u16 .ensures) ∙ paint-pixel full16 (a .low) (a .high) (a .range) k (getD (now (a .db)) i nan) ∙ ap g (pixels-at (now (a .valid-mask)) (now (a .db)) i (omega arith) (omega arith))) (l .loop .inv .2),
+      step g off (pixels (now (a .valid-mask)) (now (a .db))) o i x (omega arith) (omega arith) (c .masked-u16 .ensures ∙ ap (λ (y : ℕ). cond (eqb k 0) 0 y) (u .value-of-u16 .ensures) ∙ paint-pixel full16 (a .window .low) (a .window .high) (a .window .range) k (getD (now (a .db)) i nan) ∙ ap g (pixels-at (now (a .valid-mask)) (now (a .db)) i (omega arith) (omega arith))) (l .loop .inv .2),
     )
 
 returns : tie.Need-returns Inv-loop μ-loop
@@ -48,7 +48,7 @@ returns c =
     let l = c .before in
     let a = l .before .before .before .before .args in
     let e = pixels-length (now (a .valid-mask)) (now (a .db)) (omega arith) in
-    finish (paint full16 (a .low) (a .high) (a .range)) off (pixels (now (a .valid-mask)) (now (a .db))) (l .loop .out) (l .loop .i) (omega arith, omega arith, l .loop .inv .2) (c .loop-test .left)
+    finish (paint full16 (a .window .low) (a .window .high) (a .window .range)) off (pixels (now (a .valid-mask)) (now (a .db))) (l .loop .out) (l .loop .i) (omega arith, omega arith, l .loop .inv .2) (c .loop-test .left)
 
 pub paint-u16-spec : {M : Type 1} → statement M
 paint-u16-spec = tie.close (tie.spec Inv-loop μ-loop loop-holds (λ c. omega arith) (λ c. omega arith) (λ c κs. search needs) (λ c. omega arith) (λ c κs. search needs) (λ c. omega arith) (λ c. omega arith) (λ c. omega arith) (λ c. omega arith) loop-again (λ c. omega arith) returns)

@@ -3,16 +3,16 @@ use mathlib.Core.Path.{ap}
 use native.Mathlib.Omega.{arith}
 use lib.Ieee.{binary64, mul, toUnsigned}
 use Rattle.spec.specs.Value.{full8, valueOf}
-use Rattle.autoscale.proofs.Painting.{small8, cut8}
+use Rattle.autoscale.proofs.Painting.{full-8, small, cut}
 use borrow.Author.Needs.{needs}
 use Rattle.autoscale.proofs.paint.value_of_u8.Statement.{statement}
 use Rattle.autoscale.proofs.paint.value_of_u8.Tie as tie
 
 trunc-small-requires : tie.Need-trunc-small-requires
-trunc-small-requires c κs = rw (c .clamp-f64 .ensures) (small8 _)
+trunc-small-requires c κs = rw (c .clamp-f64 .ensures) (small full-8 _)
 
 cast-result : tie.Need-cast-result
-cast-result c = omega (arith, c .trunc-small .ensures, ap (toUnsigned 64) (c .before .clamp-f64 .ensures), cut8 (mul binary64 (c .before .before .normalized .result) full8))
+cast-result c = omega (arith, c .trunc-small .ensures, ap (toUnsigned 64) (c .before .clamp-f64 .ensures), cut full-8 (mul binary64 (c .before .before .normalized .result) full8))
 
 returns : tie.Need-returns
 unfolding valueOf

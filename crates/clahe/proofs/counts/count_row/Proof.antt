@@ -14,12 +14,12 @@ use Rattle.clahe.proofs.counts.count_row.Statement.{statement}
 use Rattle.clahe.proofs.counts.count_row.Tie as tie
 
 abbrev Inv-loop : tie.InvT-loop
-Inv-loop db valid-mask low high range hist₀ i₀ hist i =
+Inv-loop db valid-mask window hist₀ i₀ hist i =
     (i ≤ length db) × (length hist ≡ 256) × Most (16777216 + i) hist
-    × (stored hist₀ (levels (band low high range valid-mask db)) ≡ stored hist (levels (band low high range (drop i valid-mask) (drop i db))))
+    × (stored hist₀ (levels (band window valid-mask db)) ≡ stored hist (levels (band window (drop i valid-mask) (drop i db))))
 
 abbrev μ-loop : tie.MeasureT-loop
-μ-loop db valid-mask low high range hist₀ i₀ hist i = length db - i
+μ-loop db valid-mask window hist₀ i₀ hist i = length db - i
 
 loop-holds : tie.Need-loop-holds Inv-loop μ-loop
 loop-holds c =
@@ -43,8 +43,8 @@ loop-again c =
       omega arith,
       simp length-set (omega arith),
       (λ k. omega (arith, added-most h (w .3 .result) (16777216 + i) (l .loop .inv .2) k)),
-      l .loop .inv .3 ∙ row-on (a .low) (a .high) (a .range) (a .valid-mask .now) (a .db .now) h i nan (omega arith) (omega arith) (w .0 .taken)
-          ∙ ap (λ (b : ℕ). stored (added b h) (levels (band (a .low) (a .high) (a .range) (drop (i + 1) (a .valid-mask .now)) (drop (i + 1) (a .db .now)))))
+      l .loop .inv .3 ∙ row-on (a .window) (a .valid-mask .now) (a .db .now) h i nan (omega arith) (omega arith) (w .0 .taken)
+          ∙ ap (λ (b : ℕ). stored (added b h) (levels (band (a .window) (drop (i + 1) (a .valid-mask .now)) (drop (i + 1) (a .db .now)))))
           (sym (w .3 .ensures .0 ∙ ap levelOf (w .2 .ensures))),
     ))
     (λ w.
@@ -52,7 +52,7 @@ loop-again c =
       omega arith,
       omega arith,
       (λ k. omega (arith, l .loop .inv .2 k)),
-      l .loop .inv .3 ∙ row-off (a .low) (a .high) (a .range) (a .valid-mask .now) (a .db .now) h i nan (omega arith) (omega arith) (w .0 .left),
+      l .loop .inv .3 ∙ row-off (a .window) (a .valid-mask .now) (a .db .now) h i nan (omega arith) (omega arith) (w .0 .left),
     ))
     (c .if1 .came)
 
@@ -60,7 +60,7 @@ returns : tie.Need-returns Inv-loop μ-loop
 returns c =
     let l = c .before in
     let a = l .before .before .before .before .args in
-    sym (l .loop .inv .3 ∙ row-end (a .low) (a .high) (a .range) (a .valid-mask .now) (a .db .now) (l .loop .hist) (l .loop .i) (omega arith) (omega arith))
+    sym (l .loop .inv .3 ∙ row-end (a .window) (a .valid-mask .now) (a .db .now) (l .loop .hist) (l .loop .i) (omega arith) (omega arith))
 
 pub count-row-spec : {M : Type 1} → statement M
 count-row-spec =

@@ -1,25 +1,14 @@
 -- `clahe::paint::shade_u16` meets its contract: a value held to 0..1 and scaled lies between 0 and the scale. Assumes nothing.
-use mathlib.Core.Path.{sym, ap, subst, _∙_}
 use native.Mathlib.Omega.{arith}
 use borrow.Author.Needs.{needs}
-use lib.Dec.{T}
-use lib.Ieee.{Float, binary64, mul, le, toUnsigned}
-use Rattle.spec.specs.Floats.{zero64}
 use Rattle.spec.specs.Value.{full16}
-use Rattle.clahe.proofs.Shades.{most16, shade-of}
-use Rattle.clahe.proofs.Scaled.{low16, high16}
+use Rattle.clahe.proofs.Shades.{shade-of}
+use Rattle.clahe.proofs.Scaled.{scale16, scaled-small, scaled-most}
 use Rattle.clahe.proofs.paint.shade_u16.Tie as tie
 use Rattle.clahe.proofs.paint.shade_u16.Statement.{statement}
 
-trunc-small-requires : tie.Need-trunc-small-requires
-trunc-small-requires c κs =
-    let e = sym (c .clamp-f64 .ensures) in
-    (subst (λ (x : Float). T (le zero64 (mul binary64 x full16))) e (low16 _), subst (λ (x : Float). T (le (mul binary64 x full16) full16)) e (high16 _))
-
 cast-result : tie.Need-cast-result
-cast-result c =
-    let s = c .before .before .sample .result in
-    omega (arith, most16 s, c .trunc-small .ensures ∙ ap (λ (x : Float). toUnsigned 64 (mul binary64 x full16)) (c .before .clamp-f64 .ensures))
+cast-result c = omega (arith, c .trunc-small .ensures, scaled-most scale16 _ (c .before .clamp-f64 .ensures))
 
 returns : tie.Need-returns
 returns c =
@@ -36,6 +25,6 @@ shade-u16-spec =
     (λ c κs. search needs)
     (λ c κs. search needs)
     (λ c κs. search needs)
-    trunc-small-requires
+    (λ c κs. scaled-small scale16 _ (c .clamp-f64 .ensures))
     cast-result
     returns)

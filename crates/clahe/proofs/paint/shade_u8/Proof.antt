@@ -1,25 +1,14 @@
 -- `clahe::paint::shade_u8` meets its contract: a value held to 0..1 and scaled lies between 0 and the scale. Assumes nothing.
-use mathlib.Core.Path.{sym, ap, subst, _∙_}
 use native.Mathlib.Omega.{arith}
 use borrow.Author.Needs.{needs}
-use lib.Dec.{T}
-use lib.Ieee.{Float, binary64, mul, le, toUnsigned}
-use Rattle.spec.specs.Floats.{zero64}
-use Rattle.spec.specs.Value.{full8, full16}
-use Rattle.clahe.proofs.Shades.{most8, shade-of}
-use Rattle.clahe.proofs.Scaled.{low8, high8-16}
+use Rattle.spec.specs.Value.{full8}
+use Rattle.clahe.proofs.Shades.{shade-of}
+use Rattle.clahe.proofs.Scaled.{scale8, scaled-small, scaled-most}
 use Rattle.clahe.proofs.paint.shade_u8.Tie as tie
 use Rattle.clahe.proofs.paint.shade_u8.Statement.{statement}
 
-trunc-small-requires : tie.Need-trunc-small-requires
-trunc-small-requires c κs =
-    let e = sym (c .clamp-f64 .ensures) in
-    (subst (λ (x : Float). T (le zero64 (mul binary64 x full8))) e (low8 _), subst (λ (x : Float). T (le (mul binary64 x full8) full16)) e (high8-16 _))
-
 cast-result : tie.Need-cast-result
-cast-result c =
-    let s = c .before .before .sample .result in
-    omega (arith, most8 s, c .trunc-small .ensures ∙ ap (λ (x : Float). toUnsigned 64 (mul binary64 x full8)) (c .before .clamp-f64 .ensures))
+cast-result c = omega (arith, c .trunc-small .ensures, scaled-most scale8 _ (c .before .clamp-f64 .ensures))
 
 returns : tie.Need-returns
 returns c =
@@ -36,6 +25,6 @@ shade-u8-spec =
     (λ c κs. search needs)
     (λ c κs. search needs)
     (λ c κs. search needs)
-    trunc-small-requires
+    (λ c κs. scaled-small scale8 _ (c .clamp-f64 .ensures))
     cast-result
     returns)

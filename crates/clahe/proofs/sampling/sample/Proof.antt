@@ -6,8 +6,10 @@ use Rattle.clahe.proofs.sampling.sample.Statement.{statement}
 
 returns : tie.Need-returns
 returns c =
-    let a = c .before .before .before .before .before .before .before .before .before .before .args in
-    sampled-from (a .work .now) (a .y) (a .x) (a .b) _ _ _ (c .before .before .before .before .blend .ensures) (c .before .blend2 .ensures) (c .blend3 .ensures)
+    let f = c .before .before .before .before in
+    let t = f .before .before .before in
+    let a = t .before .before .before .before .args in
+    sampled-from (a .work .now) (a .y) (a .x) (a .b) _ _ _ _ (t .next-tile .ensures) (f .blend .ensures) (c .before .blend2 .ensures) (c .blend3 .ensures)
 
 pub sample-spec : {M : Type 1} → statement M
 sample-spec =
@@ -15,6 +17,7 @@ sample-spec =
     (tie.spec
     (λ c. search needs)
     (λ c. search needs)
+    (λ c κs. search needs)
     (λ c. search needs)
     (λ c. search needs)
     (λ c. search needs)

@@ -24,7 +24,7 @@ abbrev μ-loop : tie.MeasureT-loop
 μ-loop hist sums₀ whole sum₀ b₀ sums sum b = 256 - b
 
 int-to-float-max-f64 : tie.Need-int-to-float-max-f64 Inv-loop μ-loop
-int-to-float-max-f64 c = in-float (c .before .total .result) (omega arith)
+int-to-float-max-f64 c = in-float (c .before .sum-of .result) (omega arith)
 
 loop-holds : tie.Need-loop-holds Inv-loop μ-loop
 unfolding sumOf
@@ -52,7 +52,7 @@ loop-again c =
       rw (add-one) (sym next),
       kept-or-stored (λ k x. x ≡ sumAt hs k) nan (l .loop .sums) b _ (omega arith) (l .loop .inv .4)
           (sum-at hs b (l .loop .sum + getD hs b 0) _ _ (sym next)
-          (m .max-f64 .ensures ∙ ap (λ (n : ℕ). maxFloat (ofCount n) one64) (m .before .before .total .ensures .0)) (c .part .ensures)),
+          (m .max-f64 .ensures ∙ ap (λ (n : ℕ). maxFloat (ofCount n) one64) (m .before .before .sum-of .ensures .0)) (c .part .ensures)),
     )
 
 returns : tie.Need-returns Inv-loop μ-loop

@@ -14,12 +14,12 @@ use Rattle.clahe.proofs.sums.write_tables.Tie as tie
 use Rattle.clahe.proofs.sums.write_tables.Statement.{statement}
 
 abbrev Inv-loop : tie.InvT-loop
-Inv-loop db valid-mask rows cols low high range work₀ k₀ work k =
+Inv-loop db valid-mask sides window work₀ k₀ work k =
     (k ≤ 64) × (length work ≡ 16384)
-    × ((j b : ℕ) → j < k → b < 256 → getD work (j * 256 + b) nan ≡ sumAt (tileTable rows cols (band low high range valid-mask db) j) b)
+    × ((j b : ℕ) → j < k → b < 256 → getD work (j * 256 + b) nan ≡ sumAt (tileTable (sides .rows) (sides .cols) (band window valid-mask db) j) b)
 
 abbrev μ-loop : tie.MeasureT-loop
-μ-loop db valid-mask rows cols low high range work₀ k₀ work k = 64 - k
+μ-loop db valid-mask sides window work₀ k₀ work k = 64 - k
 
 loop-holds : tie.Need-loop-holds Inv-loop μ-loop
 loop-holds c = (omega arith, omega arith, λ j b h g. absurd (omega arith))
@@ -29,10 +29,10 @@ loop-again c =
     let m = c .before .before in
     let l = m .before .before .before in
     let a = l .before .before .before .before .args in
-    let px = band (a .low) (a .high) (a .range) (a .valid-mask .now) (a .db .now) in (
+    let px = band (a .window) (a .valid-mask .now) (a .db .now) in (
       omega arith,
       omega (arith, c .before .work .given),
-      put-table (λ j b. sumAt (tileTable (a .rows) (a .cols) px j) b) (l .loop .work) _ _ (l .loop .k) (omega arith) (m .tile-sums .ensures) (l .loop .inv .2),
+      put-table (λ j b. sumAt (tileTable (a .sides .rows) (a .sides .cols) px j) b) (l .loop .work) _ _ (l .loop .k) (omega arith) (m .tile-sums .ensures) (l .loop .inv .2),
     )
 
 returns : tie.Need-returns Inv-loop μ-loop
@@ -40,8 +40,8 @@ unfolding tileTables
 returns c =
     let l = c .before in
     let a = l .before .before .before .before .args in
-    let px = band (a .low) (a .high) (a .range) (a .valid-mask .now) (a .db .now) in
-    record { at = λ k b h g. l .loop .inv .2 k b (omega arith) g ∙ ap (λ (t : List ℕ). sumAt t b) (sym (places-at (tileTable (a .rows) (a .cols) px) [] 64 k h)) }
+    let px = band (a .window) (a .valid-mask .now) (a .db .now) in
+    record { at = λ k b h g. l .loop .inv .2 k b (omega arith) g ∙ ap (λ (t : List ℕ). sumAt t b) (sym (places-at (tileTable (a .sides .rows) (a .sides .cols) px) [] 64 k h)) }
 
 pub write-tables-spec : {M : Type 1} → statement M
 write-tables-spec =

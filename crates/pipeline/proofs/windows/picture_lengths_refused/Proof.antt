@@ -24,29 +24,29 @@ mul-n c =
 returns-3 : tie.Need-returns-3
 unfolding unlike
 returns-3 c =
-    let a = c .before in
+    let a = c .before .before in
     let b = a .before .before in
     rw (sym (b .before .lengths-refused .ensures) ∙ b .if1 .left, sym (a .before .lengths-refused2 .ensures) ∙ a .if2 .left, ne-eqb _ _ (c .if3 .taken))
 
 returns-4 : tie.Need-returns-4
 unfolding unlike
 returns-4 c =
-    let g1 = c .before in
-    let a = g1 .before in
+    let g1 = c .before .before in
+    let a = g1 .before .before in
     let b = a .before .before in
     rw (sym (b .before .lengths-refused .ensures) ∙ b .if1 .left, sym (a .before .lengths-refused2 .ensures) ∙ a .if2 .left, eq-eqb _ _ (g1 .if3 .left), ne-eqb _ _ (c .if4 .taken))
 
 mul-if5 : tie.Need-mul-if5
 mul-if5 c =
-    let p = c .before .before .before .before .before .before .before .before .before .before .pre in
+    let p = c .before .before .before .before .before .before .before .before .before .before .before .before .pre in
     record { fits = omega (arith, mul-le-mul (p .0) (p .1)) }
 
 returns-5 : tie.Need-returns-5
 unfolding unlike
 returns-5 c =
-    let g2 = c .before in
-    let g1 = g2 .before in
-    let a = g1 .before in
+    let g2 = c .before .before in
+    let g1 = g2 .before .before in
+    let a = g1 .before .before in
     let b = a .before .before in
     rw (sym (b .before .lengths-refused .ensures) ∙ b .if1 .left, sym (a .before .lengths-refused2 .ensures) ∙ a .if2 .left, eq-eqb _ _ (g1 .if3 .left), eq-eqb _ _ (g2 .if4 .left),
       ne-eqb _ _ (c .if5 .taken))
@@ -55,9 +55,9 @@ returns-6 : tie.Need-returns-6
 unfolding unlike
 returns-6 c =
     let r = c .before in
-    let g2 = r .before in
-    let g1 = g2 .before in
-    let a = g1 .before in
+    let g2 = r .before .before in
+    let g1 = g2 .before .before in
+    let a = g1 .before .before in
     let b = a .before .before in
     rw (sym (b .before .lengths-refused .ensures) ∙ b .if1 .left, sym (a .before .lengths-refused2 .ensures) ∙ a .if2 .left, eq-eqb _ _ (g1 .if3 .left), eq-eqb _ _ (g2 .if4 .left),
       eq-eqb _ _ (r .if5 .left)) (c .work-refused .ensures)
