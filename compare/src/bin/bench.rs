@@ -1,9 +1,10 @@
 //! bench [SIDE ..]: the Rust originals and the archive on the same scenes in the same process, one thread, medians, as a Markdown table.
 //! The Rust's inputs (arrays and masks of bool) are made beforehand, outside its times; its outputs are allocated by it, inside them.
 
-use compare::{scene, Noise};
+use compare::scene;
 use engine::{AutoscaleStrategy, Band, PictureOut, SyntheticRgbMode};
 use ndarray::Array2;
+use random::Rng;
 use sarpro::core::processing::{autoscale, synthetic_rgb};
 use sarpro::types::BitDepth;
 use std::hint::black_box;
@@ -54,8 +55,8 @@ fn rust_picture(strategy: AutoscaleStrategy, bands: &[RustBand; 2]) -> (Vec<u8>,
 fn bench(side: usize) {
     let runs = if side > 2_000 { 5 } else { 9 };
     let n = side * side;
-    let mut noise = Noise::new(7);
-    let scenes = [scene::sea(&mut noise, side, side), scene::sea(&mut noise, side, side)];
+    let mut rng = Rng::new(7);
+    let scenes = [scene::sea(&mut rng, side, side), scene::sea(&mut rng, side, side)];
     let band = |k: usize| Band { db: &scenes[k].0, valid_mask: &scenes[k].1 };
     let rust = [0, 1].map(|k: usize| RustBand {
         db: Array2::from_shape_vec((side, side), scenes[k].0.clone()).unwrap(),
@@ -82,7 +83,7 @@ fn bench(side: usize) {
         row(&format!("grey 16 bits, {strategy:?}"), side, theirs, ours);
     }
 
-    let wide: Vec<u16> = (0..n).map(|_| noise.next() as u16).collect();
+    let wide: Vec<u16> = (0..n).map(|_| rng.bits() as u16).collect();
     let theirs = median(runs, || drop(black_box(autoscale::scale_u16_to_u8(&wide))));
     let ours = median(runs, || engine::stretch(&wide, black_box(&mut grey1)).unwrap());
     row("stretch, full 16 bits", side, theirs, ours);
@@ -91,8 +92,8 @@ fn bench(side: usize) {
     let ours = median(runs, || engine::stretch(&narrow, black_box(&mut grey1)).unwrap());
     row("stretch, bytes", side, theirs, ours);
 
-    let bytes1: Vec<u8> = (0..n).map(|_| noise.next() as u8).collect();
-    let bytes2: Vec<u8> = (0..n).map(|_| noise.next() as u8).collect();
+    let bytes1: Vec<u8> = (0..n).map(|_| rng.bits() as u8).collect();
+    let bytes2: Vec<u8> = (0..n).map(|_| rng.bits() as u8).collect();
     let theirs = median(runs, || drop(black_box(synthetic_rgb::create_synthetic_rgb(&bytes1, &bytes2))));
     let ours = median(runs, || {
         engine::compose(SyntheticRgbMode::Default, AutoscaleStrategy::Default, &bytes1, &bytes2, black_box(&mut rgb)).unwrap()

@@ -1,9 +1,10 @@
 //! compare SCENES SEED [large]: the archive against the Rust originals on SCENES scenes, every result, refusal and untouched element.
 //! With `large` it goes on to a 4,096 by 4,096 scene in every strategy. The last line is 'N passed, M failed'.
 
-use compare::{scene, scene::Scene, Noise};
+use compare::{scene, scene::Scene};
 use engine::{AutoscaleStrategy, Band, PictureOut, PolarizationOperation, SyntheticRgbMode, Window};
 use oracle::{Lent, Sides};
+use random::Rng;
 
 /// Comparisons made and failed.
 struct Tally {
@@ -159,13 +160,13 @@ fn paint(strategy: AutoscaleStrategy, mode: SyntheticRgbMode, scene: &Scene) -> 
     p
 }
 
-fn pictures(tally: &mut Tally, noise: &mut Noise, scene: &Scene) {
+fn pictures(tally: &mut Tally, rng: &mut Rng, scene: &Scene) {
     let (_, theirs) = bands(scene);
     let sides = Sides { rows: scene.rows, cols: scene.cols };
     let [grey1, grey2, rgb, work] = scene.lent;
     for s in 0..7 {
         let (mine, other) = strategies(s);
-        let (mode, other_mode) = modes(noise.below(4));
+        let (mode, other_mode) = modes(rng.below(4));
         let p = paint(mine, mode, scene);
         let kept = p.work == floats(work) || (mine == AutoscaleStrategy::Clahe && p.number == 0);
         let right = match oracle::picture(other, other_mode, sides, theirs[0], theirs[1], Lent { grey1, grey2, rgb, work }) {
@@ -173,15 +174,15 @@ fn pictures(tally: &mut Tally, noise: &mut Noise, scene: &Scene) {
             Err(n) => p.number == n && p.grey1 == bytes(grey1) && p.grey2 == bytes(grey2) && p.rgb == bytes(rgb),
         };
         tally.check(right && kept, || format!("picture {mine:?} {mode:?} of {}", describe(scene)));
-        demand_3(tally, noise, scene, mine, mode, &p);
+        demand_3(tally, rng, scene, mine, mode, &p);
     }
 }
 
 /// Demand 3 on the built calls: altered under 0 marks, reordered, and ranked.
-fn demand_3(tally: &mut Tally, noise: &mut Noise, scene: &Scene, strategy: AutoscaleStrategy, mode: SyntheticRgbMode, p: &Painted) {
+fn demand_3(tally: &mut Tally, rng: &mut Rng, scene: &Scene, strategy: AutoscaleStrategy, mode: SyntheticRgbMode, p: &Painted) {
     let mut altered = Scene { rows: scene.rows, cols: scene.cols, db: scene.db.clone(), marks: scene.marks.clone(), lent: scene.lent };
     for k in 0..2 {
-        scene::garbage(noise, &mut altered.db[k], &scene.marks[k]);
+        scene::garbage(rng, &mut altered.db[k], &scene.marks[k]);
     }
     let q = paint(strategy, mode, &altered);
     let right = q.number == p.number && q.grey1 == p.grey1 && q.grey2 == p.grey2 && q.rgb == p.rgb;
@@ -190,7 +191,7 @@ fn demand_3(tally: &mut Tally, noise: &mut Noise, scene: &Scene, strategy: Autos
     let len = scene.db[0].len();
     let one_length = [scene.db[1].len(), scene.marks[0].len(), scene.marks[1].len()].iter().all(|&l| l == len);
     if one_length && strategy != AutoscaleStrategy::Adaptive && strategy != AutoscaleStrategy::Clahe {
-        let places = scene::order(noise, len);
+        let places = scene::order(rng, len);
         let reordered = Scene {
             rows: scene.rows,
             cols: scene.cols,
@@ -218,26 +219,26 @@ fn demand_3(tally: &mut Tally, noise: &mut Noise, scene: &Scene, strategy: Autos
 }
 
 /// The calls on whole lists.
-fn lists(tally: &mut Tally, noise: &mut Noise) {
-    let n = noise.pick(&[0, 1, 2, 3, 5, 17, 64, 300]);
-    let near = |noise: &mut Noise| if noise.once_in(6) { noise.below(n + 3) } else { n };
+fn lists(tally: &mut Tally, rng: &mut Rng) {
+    let n = rng.one_of(&[0, 1, 2, 3, 5, 17, 64, 300]);
+    let near = |rng: &mut Rng| if rng.once_in(6) { rng.below(n + 3) } else { n };
 
-    let top = noise.pick(&[1, 2, 255, 256, 4_096, 65_535]);
-    let data: Vec<u16> = (0..n).map(|_| noise.below(top + 1) as u16).collect();
-    let before = bytes(near(noise));
+    let top = rng.one_of(&[1, 2, 255, 256, 4_096, 65_535]);
+    let data: Vec<u16> = (0..n).map(|_| rng.below(top + 1) as u16).collect();
+    let before = bytes(near(rng));
     let mut out = before.clone();
     let answer = engine::stretch(&data, &mut out);
     let expected = oracle::stretch(&data, before.len());
     tally.check(engine_number(&answer) == number(&expected) && out == owed(&expected, &before), || format!("stretch of {data:?}"));
 
-    let top = noise.pick(&[4, 45, 256]);
-    let (len1, len2) = (n, near(noise));
-    let band1: Vec<u8> = (0..len1).map(|_| noise.below(top) as u8).collect();
-    let band2: Vec<u8> = (0..len2).map(|_| noise.below(top) as u8).collect();
-    let before = bytes(if noise.once_in(8) { 3 * n + 1 } else { 3 * n });
+    let top = rng.one_of(&[4, 45, 256]);
+    let (len1, len2) = (n, near(rng));
+    let band1: Vec<u8> = (0..len1).map(|_| rng.below(top) as u8).collect();
+    let band2: Vec<u8> = (0..len2).map(|_| rng.below(top) as u8).collect();
+    let before = bytes(if rng.once_in(8) { 3 * n + 1 } else { 3 * n });
     for s in 0..7 {
         let (mine, other) = strategies(s);
-        let (mode, other_mode) = modes(noise.below(4));
+        let (mode, other_mode) = modes(rng.below(4));
         let mut out = before.clone();
         let answer = engine::compose(mode, mine, &band1, &band2, &mut out);
         let expected = oracle::composition(other_mode, other, &band1, &band2, before.len());
@@ -247,12 +248,12 @@ fn lists(tally: &mut Tally, noise: &mut Noise) {
     }
 
     let edge = [0, 0x8000_0000, 0x2edb_e6ff, 0x2edb_e700, 0xaedb_e6ff, 0xaedb_e700, 0x3727_c5ab, 0x3727_c5ac, 0x3727_c5ad, 0x7f80_0000, 0xff80_0000, 0x7fc0_0000, 1, 0x8000_0001, 0x7f7f_ffff, 0x0080_0000];
-    let list = |noise: &mut Noise, len: usize| -> Vec<f32> {
-        (0..len).map(|_| f32::from_bits(if noise.once_in(2) { noise.pick(&edge) } else { noise.next() as u32 })).collect()
+    let list = |rng: &mut Rng, len: usize| -> Vec<f32> {
+        (0..len).map(|_| f32::from_bits(if rng.once_in(2) { rng.one_of(&edge) } else { rng.bits() as u32 })).collect()
     };
-    let (a, len) = (list(noise, n), near(noise));
-    let b = list(noise, len);
-    let before: Vec<f32> = lent(near(noise), |i| i as f32 + 0.5);
+    let (a, len) = (list(rng, n), near(rng));
+    let b = list(rng, len);
+    let before: Vec<f32> = lent(near(rng), |i| i as f32 + 0.5);
     for k in 0..5 {
         let mut out = before.clone();
         let answer = engine::operate(PolarizationOperation::ALL[k], &a, &b, &mut out);
@@ -260,17 +261,17 @@ fn lists(tally: &mut Tally, noise: &mut Noise) {
         let right = engine_number(&answer) == number(&expected) && out.iter().zip(owed(&expected, &before)).all(|(&x, y)| same32(x, y));
         tally.check(right, || format!("{:?} of {a:?} and {b:?}", PolarizationOperation::ALL[k]));
     }
-    let before = bytes(near(noise));
+    let before = bytes(near(rng));
     let mut out = before.clone();
     let answer = engine::marks(&a, &mut out);
     let expected = oracle::marks(&a, before.len());
     tally.check(engine_number(&answer) == number(&expected) && out == owed(&expected, &before), || format!("marks of {a:?}"));
 
-    let (rows, cols) = (noise.below(9), if noise.once_in(20) { 4_097 } else { noise.below(9) });
+    let (rows, cols) = (rng.below(9), if rng.once_in(20) { 4_097 } else { rng.below(9) });
     let sides = Sides { rows, cols };
-    let extra = noise.once_in(8) as usize;
+    let extra = rng.once_in(8) as usize;
     let data = bytes(rows * cols + extra);
-    let before = bytes(rows.max(cols).pow(2).min(1 << 20) + noise.once_in(8) as usize);
+    let before = bytes(rows.max(cols).pow(2).min(1 << 20) + rng.once_in(8) as usize);
     let mut out = before.clone();
     let answer = engine::pad_u8(rows, cols, &data, &mut out);
     let expected = oracle::padding_u8(sides, &data, before.len());
@@ -317,16 +318,16 @@ fn codes(tally: &mut Tally) {
 }
 
 /// A scene of 16,777,216 pixels in every strategy, and lists one element longer.
-fn large(tally: &mut Tally, noise: &mut Noise) {
+fn large(tally: &mut Tally, rng: &mut Rng) {
     let (rows, cols) = (4_096, 4_096);
     let n = rows * cols;
-    let (db1, marks1) = scene::sea(noise, rows, cols);
-    let (db2, marks2) = scene::sea(noise, rows, cols);
+    let (db1, marks1) = scene::sea(rng, rows, cols);
+    let (db2, marks2) = scene::sea(rng, rows, cols);
     let scene = Scene { rows, cols, db: [db1, db2], marks: [marks1, marks2], lent: [n, n, 3 * n, 16_384] };
     statistics(tally, &scene);
     windows(tally, &scene);
     greys(tally, &scene);
-    pictures(tally, noise, &scene);
+    pictures(tally, rng, &scene);
     let long = vec![1u16; n + 1];
     let mut out = vec![9u8; n + 1];
     tally.check(engine_number(&engine::stretch(&long, &mut out)) == 2 && out.iter().all(|&v| v == 9), || "a longer list".into());
@@ -339,22 +340,22 @@ fn main() {
     let scenes: u64 = arguments.next().and_then(|a| a.parse().ok()).unwrap_or(1_000);
     let seed: u64 = arguments.next().and_then(|a| a.parse().ok()).unwrap_or(1);
     let with_large = arguments.next().is_some_and(|a| a == "large");
-    let mut noise = Noise::new(seed);
+    let mut rng = Rng::new(seed);
     let mut tally = Tally { passed: 0, failed: 0 };
     codes(&mut tally);
     for k in 0..scenes {
-        let mut scene = scene::sound(&mut noise);
+        let mut scene = scene::sound(&mut rng);
         if k % 3 == 2 {
-            scene::damage(&mut noise, &mut scene);
+            scene::damage(&mut rng, &mut scene);
         }
         statistics(&mut tally, &scene);
         windows(&mut tally, &scene);
         greys(&mut tally, &scene);
-        pictures(&mut tally, &mut noise, &scene);
-        lists(&mut tally, &mut noise);
+        pictures(&mut tally, &mut rng, &scene);
+        lists(&mut tally, &mut rng);
     }
     if with_large {
-        large(&mut tally, &mut noise);
+        large(&mut tally, &mut rng);
     }
     println!("compare: {scenes} scenes, seed {seed}{}", if with_large { ", and 4,096 by 4,096" } else { "" });
     println!("{} passed, {} failed", tally.passed, tally.failed);

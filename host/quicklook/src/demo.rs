@@ -10,32 +10,19 @@ use crate::progress::step;
 use crate::sheet::{self, Picture, Sheet};
 use crate::trouble::{Outcome, Trouble};
 use engine::{AutoscaleStrategy, Band, PictureOut, SyntheticRgbMode, Window};
+use random::Rng;
 use std::fmt::Write as _;
 use std::path::Path;
 use wire::Georeference;
 
-/// Numbers that look random and are the same in every run.
-struct Noise(u64);
-
-impl Noise {
-    /// Between 0 and 1.
-    fn unit(&mut self) -> f64 {
-        self.0 = self.0.wrapping_add(0x9e37_79b9_7f4a_7c15);
-        let mut z = self.0;
-        z = (z ^ (z >> 30)).wrapping_mul(0xbf58_476d_1ce4_e5b9);
-        z = (z ^ (z >> 27)).wrapping_mul(0x94d0_49bb_1331_11eb);
-        ((z ^ (z >> 31)) >> 11) as f64 / (1u64 << 53) as f64
-    }
-
-    /// Speckle: an intensity's factor, of mean 1.
-    fn speckle(&mut self) -> f64 {
-        -(0..4).map(|_| (1.0 - self.unit()).ln()).sum::<f64>() / 4.0
-    }
+/// Speckle: an intensity's factor, of mean 1.
+fn speckle(rng: &mut Rng) -> f64 {
+    -(0..4).map(|_| (1.0 - rng.unit()).ln()).sum::<f64>() / 4.0
 }
 
 /// The intensities of one band, linear. A coast on the right has none.
 fn intensities(side: usize, level_db: f64, swell_db: f64, seed: u64) -> Vec<f32> {
-    let mut noise = Noise(seed);
+    let mut rng = Rng::new(seed);
     let scale = side as f64;
     let mut list = Vec::with_capacity(side * side);
     for row in 0..side {
@@ -49,7 +36,7 @@ fn intensities(side: usize, level_db: f64, swell_db: f64, seed: u64) -> Vec<f32>
             if island < 0.035 {
                 db = level_db + 14.0;
             }
-            let intensity = 10f64.powf(db / 10.0) * noise.speckle();
+            let intensity = 10f64.powf(db / 10.0) * speckle(&mut rng);
             list.push(if x > coast { 0.0 } else { intensity as f32 });
         }
     }

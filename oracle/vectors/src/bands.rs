@@ -1,11 +1,11 @@
 //! Scenes of one band on every side of every rule, and the statistics, window and grey parts made of them.
 use oracle::AutoscaleStrategy::{Adaptive, Clahe, Default, Robust, Standard, Tamed};
 use oracle::{AutoscaleStrategy, STRATEGIES};
+use random::Rng;
 
 use crate::beside::LARGE;
 use crate::calls::{grey16, grey8, statistics, window, Scene};
 use crate::record::Part;
-use crate::rng::Rng;
 use crate::tiles;
 
 const WORK: usize = oracle::table::CLAHE_WORK;

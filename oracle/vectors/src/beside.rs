@@ -1,9 +1,9 @@
 //! Arithmetic, marks, padding and the stretch: whole lists, right and of wrong lengths.
 use oracle::Sides;
+use random::Rng;
 
 use crate::calls::{every_arithmetic, marks, padding16, padding8, stretch};
 use crate::record::Part;
-use crate::rng::Rng;
 
 /// f32 of every kind: zeros, subnormals, the guard of ratio and the threshold of marks with their neighbours, large ones, infinities, NaN.
 fn singles() -> Vec<f32> {

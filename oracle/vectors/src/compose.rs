@@ -1,10 +1,10 @@
 //! Composition: every pair of bytes in default and in two suppressed tables, every table entry at each f, and wrong lengths.
 use oracle::AutoscaleStrategy::{Clahe, Default, Equalized, Tamed};
 use oracle::{MODES, STRATEGIES};
+use random::Rng;
 
 use crate::calls::composition;
 use crate::record::Part;
-use crate::rng::Rng;
 
 type Pairs = Vec<(u8, u8)>;
 

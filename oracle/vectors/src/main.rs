@@ -6,15 +6,14 @@ mod compose;
 mod numeric;
 mod pictures;
 mod record;
-mod rng;
 mod scenes;
 mod tiles;
 
 use std::path::{Path, PathBuf};
 use std::{env, fs, io, process};
 
+use random::Rng;
 use record::Part;
-use rng::Rng;
 
 const SEED: u64 = 0x5A5;
 

@@ -1,6 +1,7 @@
 //! Steps on floats that the Rust takes by methods and by `as`, each on many operands.
+use random::Rng;
+
 use crate::record::{Element, Part, Record};
-use crate::rng::Rng;
 
 /// Operands of a record.
 const TOGETHER: usize = 256;

@@ -1,12 +1,12 @@
 //! Pictures: every strategy and mode, one or both bands blank, wrong lengths of each list, and every pair of refusals over both bands.
 use oracle::AutoscaleStrategy::{Clahe, Default, Standard, Tamed};
 use oracle::{AutoscaleStrategy, Lent, SyntheticRgbMode, MODES, STRATEGIES};
+use random::Rng;
 
 use crate::bands::{random, short, sound, usual, with_fault, BAD};
 use crate::beside::LARGE;
 use crate::calls::{self, Scene};
 use crate::record::Part;
-use crate::rng::Rng;
 
 const WORK: usize = oracle::table::CLAHE_WORK;
 

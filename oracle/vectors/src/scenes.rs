@@ -6,10 +6,10 @@ use std::{fs, io};
 
 use oracle::AutoscaleStrategy::{Adaptive, Clahe, Default, Equalized, Robust, Standard, Tamed};
 use oracle::{Answer, AutoscaleStrategy, Lent, PolarizationOperation, Sides, SyntheticRgbMode, MODES, STRATEGIES};
+use random::Rng;
 
 use crate::bands::{self, random};
 use crate::calls::Scene;
-use crate::rng::Rng;
 use crate::tiles;
 
 const WORK: usize = oracle::table::CLAHE_WORK;

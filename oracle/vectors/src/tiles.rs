@@ -1,10 +1,10 @@
 //! Clahe: scenes for the grey parts, and the part of its internals: tile sums from counts, tile sums of a band, equalised pixels.
 use oracle::{Band, Sides};
+use random::Rng;
 
 use crate::bands::random;
 use crate::calls::Scene;
 use crate::record::{Part, Record};
-use crate::rng::Rng;
 
 /// Sides around a change of the tile side, from one to eight pixels a tile.
 const SIDES: [usize; 10] = [7, 8, 14, 15, 16, 21, 24, 42, 43, 64];

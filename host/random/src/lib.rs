@@ -1,4 +1,5 @@
-//! Random numbers with a fixed seed (splitmix64), the same on every machine.
+//! Random numbers with a fixed seed (splitmix64), the same on every machine: of the demo's scene, the stored vectors and the comparison.
+
 pub struct Rng(u64);
 
 impl Rng {
@@ -31,5 +32,23 @@ impl Rng {
 
     pub fn one_of<T: Copy>(&mut self, list: &[T]) -> T {
         list[self.below(list.len())]
+    }
+
+    /// True once in n.
+    pub fn once_in(&mut self, n: usize) -> bool {
+        self.below(n) == 0
+    }
+}
+
+#[cfg(test)]
+mod tests {
+    use super::*;
+
+    /// The first numbers of splitmix64 as its authors' C gives them for seed 1234567.
+    #[test]
+    fn the_numbers_are_those_of_splitmix64() {
+        let mut rng = Rng::new(1_234_567);
+        let found: Vec<u64> = (0..3).map(|_| rng.bits()).collect();
+        assert_eq!(found, [6_457_827_717_110_365_317, 3_203_168_211_198_807_973, 9_817_491_932_198_370_423]);
     }
 }
