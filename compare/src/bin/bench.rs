@@ -1,7 +1,7 @@
 //! bench [SIDE ..]: the Rust originals and the archive on the same scenes in the same process, one thread, medians, as a Markdown table.
 //! The Rust's inputs (arrays and masks of bool) are made beforehand, outside its times; its outputs are allocated by it, inside them.
 
-use compare::scene;
+use compare::{scene, strategy_of};
 use engine::{AutoscaleStrategy, Band, PictureOut, SyntheticRgbMode};
 use ndarray::Array2;
 use random::Rng;
@@ -36,7 +36,7 @@ struct RustBand {
 fn rust_grey(strategy: AutoscaleStrategy, depth: BitDepth, band: &RustBand) -> (Vec<u8>, Option<Vec<u16>>) {
     match strategy {
         AutoscaleStrategy::Standard => autoscale::autoscale_db_image_to_bitdepth(&band.db, &band.mask, depth),
-        _ => autoscale::autoscale_db_image_to_bitdepth_advanced(&band.db, &band.mask, depth, oracle::STRATEGIES[strategy as usize]),
+        _ => autoscale::autoscale_db_image_to_bitdepth_advanced(&band.db, &band.mask, depth, strategy_of(strategy)),
     }
 }
 
@@ -47,7 +47,7 @@ fn rust_picture(strategy: AutoscaleStrategy, bands: &[RustBand; 2]) -> (Vec<u8>,
     };
     let (grey1, grey2) = (grey(0), grey(1));
     let rgb = synthetic_rgb::create_synthetic_rgb_by_mode_and_strategy(
-        oracle::MODES[0], oracle::STRATEGIES[strategy as usize], &grey1, &grey2,
+        oracle::SyntheticRgbMode::Default, strategy_of(strategy), &grey1, &grey2,
     );
     (grey1, grey2, rgb)
 }

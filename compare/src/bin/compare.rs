@@ -1,7 +1,7 @@
 //! compare SCENES SEED [large]: the archive against the Rust originals on SCENES scenes, every result, refusal and untouched element.
 //! With `large` it goes on to a 4,096 by 4,096 scene in every strategy. The last line is 'N passed, M failed'.
 
-use compare::{scene, scene::Scene};
+use compare::{mode_of, operation_of, scene, scene::Scene, strategy_of};
 use engine::{AutoscaleStrategy, Band, PictureOut, PolarizationOperation, SyntheticRgbMode, Window};
 use oracle::{Lent, Sides};
 use random::Rng;
@@ -51,14 +51,6 @@ fn floats(n: usize) -> Vec<f64> {
     lent(n, |i| i as f64 + 0.25)
 }
 
-fn strategies(k: usize) -> (AutoscaleStrategy, oracle::AutoscaleStrategy) {
-    (AutoscaleStrategy::ALL[k], oracle::STRATEGIES[k])
-}
-
-fn modes(k: usize) -> (SyntheticRgbMode, oracle::SyntheticRgbMode) {
-    (SyntheticRgbMode::ALL[k], oracle::MODES[k])
-}
-
 /// What is owed of a lent list: the oracle's elements if done, else what stood there.
 fn owed<T: Clone>(answer: &Result<Vec<T>, u8>, before: &[T]) -> Vec<T> {
     answer.clone().unwrap_or_else(|_| before.to_vec())
@@ -100,8 +92,8 @@ fn statistics(tally: &mut Tally, scene: &Scene) {
 fn windows(tally: &mut Tally, scene: &Scene) {
     let (ours, theirs) = bands(scene);
     let sides = Sides { rows: scene.rows, cols: scene.cols };
-    for s in 0..7 {
-        let (mine, other) = strategies(s);
+    for mine in AutoscaleStrategy::ALL {
+        let other = strategy_of(mine);
         let answer = engine::window(mine, scene.rows, scene.cols, ours[0]);
         let right = match oracle::window(other, sides, theirs[0]) {
             Ok(None) => answer == Ok(Window::Blank),
@@ -120,8 +112,8 @@ fn windows(tally: &mut Tally, scene: &Scene) {
 fn greys(tally: &mut Tally, scene: &Scene) {
     let (ours, theirs) = bands(scene);
     let sides = Sides { rows: scene.rows, cols: scene.cols };
-    for s in 0..7 {
-        let (mine, other) = strategies(s);
+    for mine in AutoscaleStrategy::ALL {
+        let other = strategy_of(mine);
         let before_work = floats(scene.lent[3]);
 
         let before = bytes(scene.lent[0]);
@@ -164,12 +156,12 @@ fn pictures(tally: &mut Tally, rng: &mut Rng, scene: &Scene) {
     let (_, theirs) = bands(scene);
     let sides = Sides { rows: scene.rows, cols: scene.cols };
     let [grey1, grey2, rgb, work] = scene.lent;
-    for s in 0..7 {
-        let (mine, other) = strategies(s);
-        let (mode, other_mode) = modes(rng.below(4));
+    for mine in AutoscaleStrategy::ALL {
+        let other = strategy_of(mine);
+        let mode = rng.one_of(&SyntheticRgbMode::ALL);
         let p = paint(mine, mode, scene);
         let kept = p.work == floats(work) || (mine == AutoscaleStrategy::Clahe && p.number == 0);
-        let right = match oracle::picture(other, other_mode, sides, theirs[0], theirs[1], Lent { grey1, grey2, rgb, work }) {
+        let right = match oracle::picture(other, mode_of(mode), sides, theirs[0], theirs[1], Lent { grey1, grey2, rgb, work }) {
             Ok(e) => p.number == 0 && p.grey1 == e.grey1 && p.grey2 == e.grey2 && p.rgb == e.rgb,
             Err(n) => p.number == n && p.grey1 == bytes(grey1) && p.grey2 == bytes(grey2) && p.rgb == bytes(rgb),
         };
@@ -236,12 +228,12 @@ fn lists(tally: &mut Tally, rng: &mut Rng) {
     let band1: Vec<u8> = (0..len1).map(|_| rng.below(top) as u8).collect();
     let band2: Vec<u8> = (0..len2).map(|_| rng.below(top) as u8).collect();
     let before = bytes(if rng.once_in(8) { 3 * n + 1 } else { 3 * n });
-    for s in 0..7 {
-        let (mine, other) = strategies(s);
-        let (mode, other_mode) = modes(rng.below(4));
+    for mine in AutoscaleStrategy::ALL {
+        let other = strategy_of(mine);
+        let mode = rng.one_of(&SyntheticRgbMode::ALL);
         let mut out = before.clone();
         let answer = engine::compose(mode, mine, &band1, &band2, &mut out);
-        let expected = oracle::composition(other_mode, other, &band1, &band2, before.len());
+        let expected = oracle::composition(mode_of(mode), other, &band1, &band2, before.len());
         tally.check(engine_number(&answer) == number(&expected) && out == owed(&expected, &before), || {
             format!("composition {mine:?} of {band1:?} and {band2:?}")
         });
@@ -254,12 +246,12 @@ fn lists(tally: &mut Tally, rng: &mut Rng) {
     let (a, len) = (list(rng, n), near(rng));
     let b = list(rng, len);
     let before: Vec<f32> = lent(near(rng), |i| i as f32 + 0.5);
-    for k in 0..5 {
+    for operation in PolarizationOperation::ALL {
         let mut out = before.clone();
-        let answer = engine::operate(PolarizationOperation::ALL[k], &a, &b, &mut out);
-        let expected = oracle::arithmetic(oracle::OPERATIONS[k], &a, &b, before.len());
+        let answer = engine::operate(operation, &a, &b, &mut out);
+        let expected = oracle::arithmetic(operation_of(operation), &a, &b, before.len());
         let right = engine_number(&answer) == number(&expected) && out.iter().zip(owed(&expected, &before)).all(|(&x, y)| same32(x, y));
-        tally.check(right, || format!("{:?} of {a:?} and {b:?}", PolarizationOperation::ALL[k]));
+        tally.check(right, || format!("{operation:?} of {a:?} and {b:?}"));
     }
     let before = bytes(near(rng));
     let mut out = before.clone();

@@ -34,9 +34,8 @@ impl std::error::Error for Refusal {}
 
 pub type Answer<T> = Result<T, Refusal>;
 
-/// The strategies in the order of types.rs.
+/// The strategies of types.rs.
 #[derive(Clone, Copy, Debug, PartialEq, Eq)]
-#[repr(u8)]
 pub enum AutoscaleStrategy {
     Standard,
     Robust,
@@ -48,8 +47,33 @@ pub enum AutoscaleStrategy {
 }
 
 impl AutoscaleStrategy {
-    pub const ALL: [Self; 7] =
-        [Self::Standard, Self::Robust, Self::Adaptive, Self::Equalized, Self::Clahe, Self::Tamed, Self::Default];
+    pub const ALL: [Self; 7] = [Self::Standard, Self::Robust, Self::Adaptive, Self::Equalized, Self::Clahe, Self::Tamed, Self::Default];
+
+    /// The code in the header.
+    pub fn code(self) -> u8 {
+        match self {
+            Self::Standard => 0,
+            Self::Robust => 1,
+            Self::Adaptive => 2,
+            Self::Equalized => 3,
+            Self::Clahe => 4,
+            Self::Tamed => 5,
+            Self::Default => 6,
+        }
+    }
+
+    /// The name that results carry.
+    pub fn name(self) -> &'static str {
+        match self {
+            Self::Standard => "standard",
+            Self::Robust => "robust",
+            Self::Adaptive => "adaptive",
+            Self::Equalized => "equalized",
+            Self::Clahe => "clahe",
+            Self::Tamed => "tamed",
+            Self::Default => "default",
+        }
+    }
 
     /// The elements of `work` that the strategy needs.
     pub fn work_len(self) -> usize {
@@ -57,9 +81,8 @@ impl AutoscaleStrategy {
     }
 }
 
-/// The modes in the order of types.rs.
+/// The modes of types.rs.
 #[derive(Clone, Copy, Debug, PartialEq, Eq)]
-#[repr(u8)]
 pub enum SyntheticRgbMode {
     Default,
     RgbRatio,
@@ -69,9 +92,29 @@ pub enum SyntheticRgbMode {
 
 impl SyntheticRgbMode {
     pub const ALL: [Self; 4] = [Self::Default, Self::RgbRatio, Self::SarUrban, Self::Enhanced];
+
+    /// The code in the header.
+    pub fn code(self) -> u8 {
+        match self {
+            Self::Default => 0,
+            Self::RgbRatio => 1,
+            Self::SarUrban => 2,
+            Self::Enhanced => 3,
+        }
+    }
+
+    /// The name that results carry.
+    pub fn name(self) -> &'static str {
+        match self {
+            Self::Default => "default",
+            Self::RgbRatio => "rgbratio",
+            Self::SarUrban => "sarurban",
+            Self::Enhanced => "enhanced",
+        }
+    }
 }
 
-/// The operations in the order of types.rs.
+/// The operations of types.rs.
 #[derive(Clone, Copy, Debug, PartialEq, Eq)]
 pub enum PolarizationOperation {
     Sum,
@@ -91,14 +134,55 @@ pub const CLAHE_WORK: usize = 16_384;
 pub const LONGEST_SIDE: usize = 4096;
 pub const LONGEST: usize = 16_777_216;
 
-/// The names of the fifteen floats of the statistics, in their order.
-pub const FLOAT_NAMES: [&str; 15] =
-    ["min", "max", "mean", "std", "median", "p01", "p02", "p05", "p10", "p25", "p75", "p90", "p95", "p98", "p99"];
-
+/// The record of a band's statistics, in decibels.
 #[derive(Clone, Copy, Debug, PartialEq)]
 pub struct Statistics {
     pub valid_count: u64,
-    pub floats: [f64; 15],
+    pub min_db: f64,
+    pub max_db: f64,
+    pub mean_db: f64,
+    pub std_db: f64,
+    pub median_db: f64,
+    pub p01: f64,
+    pub p02: f64,
+    pub p05: f64,
+    pub p10: f64,
+    pub p25: f64,
+    pub p75: f64,
+    pub p90: f64,
+    pub p95: f64,
+    pub p98: f64,
+    pub p99: f64,
+}
+
+impl Statistics {
+    /// From the floats as the call writes them.
+    fn from_lent(valid_count: u64, floats: [f64; 15]) -> Self {
+        let [min_db, max_db, mean_db, std_db, median_db, p01, p02, p05, p10, p25, p75, p90, p95, p98, p99] = floats;
+        Statistics { valid_count, min_db, max_db, mean_db, std_db, median_db, p01, p02, p05, p10, p25, p75, p90, p95, p98, p99 }
+    }
+
+    /// The floats in the record's order, with the names that they are printed by.
+    pub fn named(&self) -> [(&'static str, f64); 15] {
+        let Statistics { valid_count: _, min_db, max_db, mean_db, std_db, median_db, p01, p02, p05, p10, p25, p75, p90, p95, p98, p99 } = *self;
+        [
+            ("min", min_db),
+            ("max", max_db),
+            ("mean", mean_db),
+            ("std", std_db),
+            ("median", median_db),
+            ("p01", p01),
+            ("p02", p02),
+            ("p05", p05),
+            ("p10", p10),
+            ("p25", p25),
+            ("p75", p75),
+            ("p90", p90),
+            ("p95", p95),
+            ("p98", p98),
+            ("p99", p99),
+        ]
+    }
 }
 
 #[derive(Clone, Copy, Debug, PartialEq)]
@@ -182,47 +266,24 @@ pub fn marks(processed: &[f32], valid_mask: &mut [u8]) -> Answer<()> {
 pub fn statistics(rows: usize, cols: usize, band: Band) -> Answer<Statistics> {
     let mut valid_count = 0u64;
     let mut floats = [0f64; 15];
-    call(|| unsafe {
-        c::quicklook_statistics(
-            rows, cols, band.db.as_ptr(), band.db.len(), band.valid_mask.as_ptr(), band.valid_mask.len(), &mut valid_count, &mut floats,
-        )
-    })?;
-    Ok(Statistics { valid_count, floats })
+    codes::statistics(rows, cols, band, &mut valid_count, &mut floats)?;
+    Ok(Statistics::from_lent(valid_count, floats))
 }
 
 pub fn window(strategy: AutoscaleStrategy, rows: usize, cols: usize, band: Band) -> Answer<Window> {
     let mut blank = 0u8;
     let mut floats = [0f64; 4];
-    call(|| unsafe {
-        c::quicklook_window(
-            strategy as u8, rows, cols, band.db.as_ptr(), band.db.len(), band.valid_mask.as_ptr(), band.valid_mask.len(), &mut blank,
-            &mut floats,
-        )
-    })?;
+    codes::window(strategy.code(), rows, cols, band, &mut blank, &mut floats)?;
     let [low, high, range, gamma] = floats;
     Ok(if blank == 1 { Window::Blank } else { Window::Window { low, high, range, gamma } })
 }
 
-pub fn grey_u8(
-    strategy: AutoscaleStrategy, rows: usize, cols: usize, band: Band, out: &mut [u8], work: &mut [f64],
-) -> Answer<()> {
-    call(|| unsafe {
-        c::quicklook_grey_u8(
-            strategy as u8, rows, cols, band.db.as_ptr(), band.db.len(), band.valid_mask.as_ptr(), band.valid_mask.len(),
-            out.as_mut_ptr(), out.len(), work.as_mut_ptr(), work.len(),
-        )
-    })
+pub fn grey_u8(strategy: AutoscaleStrategy, rows: usize, cols: usize, band: Band, out: &mut [u8], work: &mut [f64]) -> Answer<()> {
+    codes::grey_u8(strategy.code(), rows, cols, band, out, work)
 }
 
-pub fn grey_u16(
-    strategy: AutoscaleStrategy, rows: usize, cols: usize, band: Band, out: &mut [u16], work: &mut [f64],
-) -> Answer<()> {
-    call(|| unsafe {
-        c::quicklook_grey_u16(
-            strategy as u8, rows, cols, band.db.as_ptr(), band.db.len(), band.valid_mask.as_ptr(), band.valid_mask.len(),
-            out.as_mut_ptr(), out.len(), work.as_mut_ptr(), work.len(),
-        )
-    })
+pub fn grey_u16(strategy: AutoscaleStrategy, rows: usize, cols: usize, band: Band, out: &mut [u16], work: &mut [f64]) -> Answer<()> {
+    codes::grey_u16(strategy.code(), rows, cols, band, out, work)
 }
 
 /// What the picture call writes.
@@ -236,14 +297,7 @@ pub fn picture(
     strategy: AutoscaleStrategy, mode: SyntheticRgbMode, rows: usize, cols: usize, band1: Band, band2: Band, out: PictureOut,
     work: &mut [f64],
 ) -> Answer<()> {
-    call(|| unsafe {
-        c::quicklook_picture(
-            strategy as u8, mode as u8, rows, cols, band1.db.as_ptr(), band1.db.len(), band1.valid_mask.as_ptr(),
-            band1.valid_mask.len(), band2.db.as_ptr(), band2.db.len(), band2.valid_mask.as_ptr(), band2.valid_mask.len(),
-            out.grey1.as_mut_ptr(), out.grey1.len(), out.grey2.as_mut_ptr(), out.grey2.len(), out.rgb.as_mut_ptr(), out.rgb.len(),
-            work.as_mut_ptr(), work.len(),
-        )
-    })
+    codes::picture(strategy.code(), mode.code(), rows, cols, band1, band2, out, work)
 }
 
 pub fn stretch(data: &[u16], out: &mut [u8]) -> Answer<()> {
@@ -251,11 +305,7 @@ pub fn stretch(data: &[u16], out: &mut [u8]) -> Answer<()> {
 }
 
 pub fn compose(mode: SyntheticRgbMode, strategy: AutoscaleStrategy, band1: &[u8], band2: &[u8], rgb: &mut [u8]) -> Answer<()> {
-    call(|| unsafe {
-        c::quicklook_compose(
-            mode as u8, strategy as u8, band1.as_ptr(), band1.len(), band2.as_ptr(), band2.len(), rgb.as_mut_ptr(), rgb.len(),
-        )
-    })
+    codes::compose(mode.code(), strategy.code(), band1, band2, rgb)
 }
 
 pub fn pad_u8(rows: usize, cols: usize, data: &[u8], padded: &mut [u8]) -> Answer<()> {
@@ -277,7 +327,7 @@ pub fn operate(operation: PolarizationOperation, a: &[f32], b: &[f32], out: &mut
     call(|| unsafe { operate(a.as_ptr(), a.len(), b.as_ptr(), b.len(), out.as_mut_ptr(), out.len()) })
 }
 
-/// The raw calls that take codes, for tests of codes that name nothing.
+/// The calls by codes and lent memory, as the archive has them; tests use them for codes that name nothing and for memory left alone.
 pub mod codes {
     use super::{c, call, Answer, Band, PictureOut};
 
@@ -338,5 +388,22 @@ pub mod codes {
                 work.len(),
             )
         })
+    }
+}
+
+#[cfg(test)]
+mod tests {
+    use super::*;
+
+    #[test]
+    fn every_code_is_its_place() {
+        assert_eq!(AutoscaleStrategy::ALL.map(AutoscaleStrategy::code), [0, 1, 2, 3, 4, 5, 6]);
+        assert_eq!(SyntheticRgbMode::ALL.map(SyntheticRgbMode::code), [0, 1, 2, 3]);
+    }
+
+    #[test]
+    fn statistics_keep_their_order() {
+        let floats: [f64; 15] = std::array::from_fn(|k| k as f64);
+        assert_eq!(Statistics::from_lent(7, floats).named().map(|(_, value)| value), floats);
     }
 }

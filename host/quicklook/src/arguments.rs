@@ -303,7 +303,7 @@ pub enum Bits {
     Sixteen,
 }
 
-/// The strategies, in the order of types.rs.
+/// The strategies of types.rs.
 #[derive(Clone, Copy, ValueEnum)]
 pub enum Strategy {
     /// By the scene's spread: p02 to p98, or wide of the quartiles where they lie within 5 dB; a spread under 15 dB chooses gamma 1.1, else one over 40 dB with wider quartiles 0.9, and both are refused 6
@@ -324,11 +324,19 @@ pub enum Strategy {
 
 impl From<Strategy> for engine::AutoscaleStrategy {
     fn from(strategy: Strategy) -> Self {
-        Self::ALL[strategy as usize]
+        match strategy {
+            Strategy::Standard => Self::Standard,
+            Strategy::Robust => Self::Robust,
+            Strategy::Adaptive => Self::Adaptive,
+            Strategy::Equalized => Self::Equalized,
+            Strategy::Clahe => Self::Clahe,
+            Strategy::Tamed => Self::Tamed,
+            Strategy::Default => Self::Default,
+        }
     }
 }
 
-/// The modes, in the order of types.rs. All four give the same colours.
+/// The modes of types.rs. All four give the same colours.
 #[derive(Clone, Copy, ValueEnum)]
 pub enum Mode {
     /// Red of band 1, green of band 2, blue of their ratio
@@ -343,7 +351,12 @@ pub enum Mode {
 
 impl From<Mode> for engine::SyntheticRgbMode {
     fn from(mode: Mode) -> Self {
-        Self::ALL[mode as usize]
+        match mode {
+            Mode::Default => Self::Default,
+            Mode::RgbRatio => Self::RgbRatio,
+            Mode::SarUrban => Self::SarUrban,
+            Mode::Enhanced => Self::Enhanced,
+        }
     }
 }
 
@@ -358,6 +371,12 @@ pub enum Operation {
 
 impl From<Operation> for engine::PolarizationOperation {
     fn from(operation: Operation) -> Self {
-        Self::ALL[operation as usize]
+        match operation {
+            Operation::Sum => Self::Sum,
+            Operation::Diff => Self::Diff,
+            Operation::Ratio => Self::Ratio,
+            Operation::NDiff => Self::NDiff,
+            Operation::LogRatio => Self::LogRatio,
+        }
     }
 }

@@ -4,7 +4,7 @@ use crate::arguments::{BandFiles, Bits, Command, Form, Marks, PartOf, Reading, S
 use crate::demo;
 use crate::elements::Kind;
 use crate::explain;
-use crate::json::Json;
+use crate::json;
 use crate::memory::{self, Plain};
 use crate::origin::{self, Items, Origin};
 use crate::outputs;
@@ -17,7 +17,8 @@ use crate::source::{List, Name, Source};
 use crate::threads;
 use crate::trouble::{Outcome, Trouble};
 use crate::view;
-use engine::{AutoscaleStrategy, PictureOut, PolarizationOperation, SyntheticRgbMode, Window};
+use engine::{AutoscaleStrategy, PictureOut, PolarizationOperation, Statistics, SyntheticRgbMode, Window};
+use serde::{Serialize, Serializer};
 use std::ffi::{OsStr, OsString};
 use std::fs::File;
 use std::io::Write;
@@ -189,18 +190,54 @@ fn read(files: &[OsString], reading: &Reading, outs: [Option<&PathBuf>; 2], forc
 }
 
 /// What the JSON of a band begins with.
-fn json_head(scene: &Scene) -> Json {
-    let band = &scene.bands[0];
-    let mut json = Json::default();
-    json.text("file", &band.db_name);
-    json.number("band", band.band);
-    json.text("marks", &band.marks_name);
-    json.number("rows", scene.rows);
-    json.number("cols", scene.cols);
-    if let Some(crop) = scene.origin.crop {
-        json.raw("crop", &format!("[{},{},{},{}]", crop.row, crop.col, crop.rows, crop.cols));
+#[derive(Serialize)]
+struct Head<'a> {
+    file: &'a str,
+    band: usize,
+    marks: &'a str,
+    rows: usize,
+    cols: usize,
+    #[serde(skip_serializing_if = "Option::is_none")]
+    crop: Option<[usize; 4]>,
+}
+
+impl<'a> Head<'a> {
+    fn of(scene: &'a Scene) -> Self {
+        let band = &scene.bands[0];
+        let crop = scene.origin.crop.map(|crop| [crop.row, crop.col, crop.rows, crop.cols]);
+        Head { file: &band.db_name, band: band.band, marks: &band.marks_name, rows: scene.rows, cols: scene.cols, crop }
     }
-    json
+}
+
+/// The JSON of `stats`.
+#[derive(Serialize)]
+struct ToldStatistics<'a> {
+    #[serde(flatten)]
+    head: Head<'a>,
+    valid: u64,
+    #[serde(flatten, serialize_with = "named")]
+    floats: Statistics,
+}
+
+fn named<S: Serializer>(statistics: &Statistics, serializer: S) -> Result<S::Ok, S::Error> {
+    serializer.collect_map(statistics.named())
+}
+
+/// The JSON of `window`; null is blank.
+#[derive(Serialize)]
+struct ToldWindow<'a> {
+    #[serde(flatten)]
+    head: Head<'a>,
+    strategy: &'a str,
+    window: Option<Numbers>,
+}
+
+#[derive(Serialize)]
+struct Numbers {
+    low: f64,
+    high: f64,
+    range: f64,
+    gamma: f64,
 }
 
 fn stats(files: &BandFiles, as_json: bool) -> Outcome<()> {
@@ -209,13 +246,10 @@ fn stats(files: &BandFiles, as_json: bool) -> Outcome<()> {
     let statistics = answer.map_err(|refusal| explain::refused(refusal, &scene, AutoscaleStrategy::Default))?;
     scene.origin.unchanged()?;
     if as_json {
-        let mut json = json_head(&scene);
-        json.number("valid", statistics.valid_count);
-        engine::FLOAT_NAMES.iter().zip(statistics.floats).for_each(|(name, value)| json.number(name, value));
-        return print(&json.line());
+        return print(&json::line(&ToldStatistics { head: Head::of(&scene), valid: statistics.valid_count, floats: statistics }));
     }
     let mut text = format!("{:<8}{}\n", "valid", statistics.valid_count);
-    for (name, value) in engine::FLOAT_NAMES.iter().zip(statistics.floats) {
+    for (name, value) in statistics.named() {
         text.push_str(&format!("{name:<8}{value}\n"));
     }
     print(&text)
@@ -227,15 +261,11 @@ fn window(files: &BandFiles, strategy: AutoscaleStrategy, as_json: bool) -> Outc
     let window = answer.map_err(|refusal| explain::refused(refusal, &scene, strategy))?;
     scene.origin.unchanged()?;
     if as_json {
-        let mut json = json_head(&scene);
-        json.text("strategy", &format!("{strategy:?}").to_lowercase());
-        match window {
-            Window::Blank => json.raw("window", "null"),
-            Window::Window { low, high, range, gamma } => {
-                json.raw("window", &format!("{{\"low\":{low},\"high\":{high},\"range\":{range},\"gamma\":{gamma}}}"))
-            }
-        }
-        return print(&json.line());
+        let window = match window {
+            Window::Blank => None,
+            Window::Window { low, high, range, gamma } => Some(Numbers { low, high, range, gamma }),
+        };
+        return print(&json::line(&ToldWindow { head: Head::of(&scene), strategy: strategy.name(), window }));
     }
     print(&match window {
         Window::Blank => "blank\n".to_string(),

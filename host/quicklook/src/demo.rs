@@ -87,7 +87,7 @@ pub fn run(folder: &Path, side: usize, force: bool) -> Outcome<()> {
         let band = Band { db: &db, valid_mask: &valid_mask };
         let statistics = step("statistics", || engine::statistics(side, side, band))?;
         let _ = writeln!(text, "{name}: {} of {n} pixels valid", statistics.valid_count);
-        for (float, value) in engine::FLOAT_NAMES.iter().zip(statistics.floats) {
+        for (float, value) in statistics.named() {
             let _ = writeln!(text, "  {float:<7}{value:>10.3} dB");
         }
         if let Window::Window { low, high, .. } = step("window", || engine::window(AutoscaleStrategy::Default, side, side, band))? {
@@ -104,7 +104,7 @@ pub fn run(folder: &Path, side: usize, force: bool) -> Outcome<()> {
         let (mut grey1, mut grey2, mut rgb) = (memory::zeros(n, "a picture")?, memory::zeros(n, "a picture")?, memory::zeros(3 * n, "a picture")?);
         let mut work = vec![0f64; strategy.work_len()];
         let lent = PictureOut { grey1: &mut grey1, grey2: &mut grey2, rgb: &mut rgb };
-        let name = format!("{strategy:?}").to_lowercase();
+        let name = strategy.name();
         match step("picture", || engine::picture(strategy, SyntheticRgbMode::Default, side, side, band(0), band(1), lent, &mut work)) {
             Ok(()) => {
                 for (kind, picture) in [("rgb", Picture::Rgb(&rgb)), ("grey1", Picture::Grey8(&grey1)), ("grey2", Picture::Grey8(&grey2))] {

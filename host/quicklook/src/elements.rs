@@ -22,17 +22,30 @@ pub enum Kind {
 }
 
 impl Kind {
-    const NAMES: [(&'static str, Kind); 12] = [
-        ("f8", Kind::F64), ("f4", Kind::F32), ("f2", Kind::F16), ("i8", Kind::I64), ("i4", Kind::I32), ("i2", Kind::I16), ("i1", Kind::I8),
-        ("u8", Kind::U64), ("u4", Kind::U32), ("u2", Kind::U16), ("u1", Kind::U8), ("b1", Kind::Bool),
+    const ALL: [Kind; 12] = [
+        Kind::F64, Kind::F32, Kind::F16, Kind::I64, Kind::I32, Kind::I16, Kind::I8, Kind::U64, Kind::U32, Kind::U16, Kind::U8, Kind::Bool,
     ];
 
     pub fn of_name(name: &str) -> Option<Self> {
-        Self::NAMES.iter().find(|(known, _)| *known == name).map(|(_, kind)| *kind)
+        Self::ALL.into_iter().find(|kind| kind.name() == name)
     }
 
+    /// NumPy's name, which the GDAL process uses too.
     pub fn name(self) -> &'static str {
-        Self::NAMES.iter().find(|(_, kind)| *kind == self).map_or("", |(name, _)| name)
+        match self {
+            Kind::F64 => "f8",
+            Kind::F32 => "f4",
+            Kind::F16 => "f2",
+            Kind::I64 => "i8",
+            Kind::I32 => "i4",
+            Kind::I16 => "i2",
+            Kind::I8 => "i1",
+            Kind::U64 => "u8",
+            Kind::U32 => "u4",
+            Kind::U16 => "u2",
+            Kind::U8 => "u1",
+            Kind::Bool => "b1",
+        }
     }
 
     pub fn width(self) -> usize {

@@ -91,9 +91,9 @@ pub fn items(command: &str, origin: &Origin) -> Outcome<Items> {
 pub fn painted(command: &str, scene: &Scene, strategy: AutoscaleStrategy, mode: Option<SyntheticRgbMode>) -> Outcome<Items> {
     let (items, windows) = threads::join(|| items(command, &scene.origin), || windows(scene, strategy, mode.is_some()));
     let mut items = items?;
-    items.push(("quicklook_strategy".into(), format!("{strategy:?}").to_lowercase()));
+    items.push(("quicklook_strategy".into(), strategy.name().into()));
     if let Some(mode) = mode {
-        items.push(("quicklook_mode".into(), format!("{mode:?}").to_lowercase()));
+        items.push(("quicklook_mode".into(), mode.name().into()));
     }
     for (k, window) in windows.into_iter().enumerate() {
         let words = match window {
@@ -121,9 +121,8 @@ pub fn painted_window(scene: &Scene, k: usize, strategy: AutoscaleStrategy, of_p
     if s.valid_count == 0 {
         return Some(Window::Blank);
     }
-    let [_, _, _, _, _, _, p02, p05, _, _, _, _, _, _, p99] = s.floats;
-    let low = if k == 0 { p02.min(p05) } else { p05 };
-    Some(Window::Window { low, high: p99, range: (p99 - low).max(1.0), gamma: 1.0 })
+    let low = if k == 0 { s.p02.min(s.p05) } else { s.p05 };
+    Some(Window::Window { low, high: s.p99, range: (s.p99 - low).max(1.0), gamma: 1.0 })
 }
 
 pub fn checksum(path: &Path) -> io::Result<String> {

@@ -4,7 +4,7 @@ use crate::arguments::SceneFiles;
 use crate::commands::room;
 use crate::explain;
 use crate::gdal::Process;
-use crate::json::{numbers, quoted, Json};
+use crate::json;
 use crate::origin::{self, painted_window, Items};
 use crate::outputs;
 use crate::parts::Parts;
@@ -15,6 +15,7 @@ use crate::trouble::{Outcome, Trouble};
 use engine::{Answer, AutoscaleStrategy, PictureOut, Statistics, SyntheticRgbMode, Window};
 use flate2::write::ZlibEncoder;
 use flate2::Compression;
+use serde::Serialize;
 use std::io::Write;
 use std::path::Path;
 use wire::Georeference;
@@ -53,11 +54,9 @@ pub fn run(files: &SceneFiles, strategy: AutoscaleStrategy, mode: SyntheticRgbMo
         names.dedup();
         names.join(" and ")
     });
-    let mut scene = step("statistics", || describe(&title, strategy, mode, &read, &origin)).map_err(refused)?;
     let block_rows = (1usize << 20).div_ceil(cols.max(1)).min(rows.max(1));
-    scene.number("blockRows", block_rows);
-    scene.raw("ground", &ground(&read.georeference, rows, cols)?.unwrap_or_else(|| "null".into()));
-    let scene = scene.object();
+    let described = step("statistics", || describe(&title, strategy, mode, &read, &origin, block_rows)).map_err(refused)?;
+    let scene = Described { ground: ground(&read.georeference, rows, cols)?, ..described };
     step("packing", || {
         let page = Parts::fill(out, force, |file| {
             let bad = |e: std::io::Error| Trouble::file(out, e);
@@ -69,7 +68,7 @@ pub fn run(files: &SceneFiles, strategy: AutoscaleStrategy, mode: SyntheticRgbMo
                     "title" => file.write_all(escaped(&title).as_bytes()).map_err(bad)?,
                     "style" => file.write_all(STYLE.as_bytes()).map_err(bad)?,
                     "script" => file.write_all(SCRIPT.as_bytes()).map_err(bad)?,
-                    "scene" => file.write_all(scene.as_bytes()).map_err(bad)?,
+                    "scene" => json::write(file, &scene).map_err(bad)?,
                     "first" => pack(file, &first, cols, block_rows).map_err(bad)?,
                     "rest" => rest.iter().try_for_each(|list| pack(file, list, cols, block_rows)).map_err(bad)?,
                     other => unreachable!("page.html names {other}"),
@@ -142,53 +141,92 @@ fn pack(out: &mut impl Write, list: &List, cols: usize, block_rows: usize) -> st
     Ok(())
 }
 
-/// The page's description of the scene, as JSON.
-fn describe(title: &str, strategy: AutoscaleStrategy, mode: SyntheticRgbMode, scene: &Scene, origin: &Items) -> Answer<Json> {
+/// The page's description of the scene.
+#[derive(Serialize)]
+#[serde(rename_all = "camelCase")]
+struct Described<'a> {
+    title: &'a str,
+    about: String,
+    rows: usize,
+    cols: usize,
+    /// The first row and column of the part that was read.
+    #[serde(skip_serializing_if = "Option::is_none")]
+    crop: Option<[usize; 2]>,
+    bands: usize,
+    statistic_names: Vec<&'static str>,
+    /// Of each band the count, which a float holds, and the fifteen floats.
+    statistics: Vec<Vec<f64>>,
+    windows: Vec<Option<Ends>>,
+    histograms: Vec<Histogram>,
+    origin: &'a Items,
+    block_rows: usize,
+    ground: Option<Ground>,
+}
+
+/// The ends of a band's window.
+#[derive(Serialize)]
+struct Ends {
+    low: f64,
+    high: f64,
+}
+
+/// Counts of valid decibels between the least and the greatest, for drawing only.
+#[derive(Serialize)]
+struct Histogram {
+    min: f64,
+    max: f64,
+    counts: Vec<u32>,
+}
+
+/// Where the pixels lie: the six numbers where there are such, and a grid of places to read between.
+#[derive(Serialize)]
+struct Ground {
+    crs: String,
+    transform: Option<[f64; 6]>,
+    step: usize,
+    down: usize,
+    across: usize,
+    off: f64,
+    places: Vec<f64>,
+}
+
+fn describe<'a>(
+    title: &'a str, strategy: AutoscaleStrategy, mode: SyntheticRgbMode, scene: &Scene, origin: &'a Items, block_rows: usize,
+) -> Answer<Described<'a>> {
     let &Scene { rows, cols, ref bands, .. } = scene;
-    let mut statistics = Vec::new();
-    let mut windows = Vec::new();
-    let mut histograms = Vec::new();
-    for (k, band) in bands.iter().enumerate() {
-        let s = engine::statistics(rows, cols, band.band())?;
-        windows.push(match painted_window(scene, k, strategy, bands.len() == 2) {
-            Some(Window::Window { low, high, .. }) => format!("{{\"low\":{low},\"high\":{high}}}"),
-            Some(Window::Blank) | None => "null".to_string(),
-        });
-        let list: Vec<String> = std::iter::once(s.valid_count.to_string()).chain(s.floats.iter().map(f64::to_string)).collect();
-        statistics.push(format!("[{}]", list.join(",")));
-        histograms.push(histogram(&s, band));
-    }
-    let names: Vec<String> = std::iter::once("valid").chain(engine::FLOAT_NAMES).map(|name| format!("\"{name}\"")).collect();
+    let statistics = bands.iter().map(|band| engine::statistics(rows, cols, band.band())).collect::<Answer<Vec<_>>>()?;
+    let windows = (0..bands.len()).map(|k| match painted_window(scene, k, strategy, bands.len() == 2) {
+        Some(Window::Window { low, high, .. }) => Some(Ends { low, high }),
+        Some(Window::Blank) | None => None,
+    });
     let about = match bands.len() {
         1 => format!("{rows} rows of {cols}, {strategy:?}"),
         _ => format!("{rows} rows of {cols}, {strategy:?}, mode {mode:?}"),
     };
-    let list = |parts: &[String]| format!("[{}]", parts.join(","));
-    let mut json = Json::default();
-    json.text("title", title);
-    json.text("about", &about);
-    json.number("rows", rows);
-    json.number("cols", cols);
-    if let Some(crop) = scene.origin.crop {
-        json.raw("crop", &format!("[{},{}]", crop.row, crop.col));
-    }
-    json.number("bands", bands.len());
-    json.raw("statisticNames", &list(&names));
-    json.raw("statistics", &list(&statistics));
-    json.raw("windows", &list(&windows));
-    json.raw("histograms", &list(&histograms));
-    let origin: Vec<String> = origin.iter().map(|(name, words)| format!("[{},{}]", quoted(name), quoted(words))).collect();
-    json.raw("origin", &list(&origin));
-    Ok(json)
+    Ok(Described {
+        title,
+        about,
+        rows,
+        cols,
+        crop: scene.origin.crop.map(|crop| [crop.row, crop.col]),
+        bands: bands.len(),
+        statistic_names: std::iter::once("valid").chain(statistics[0].named().map(|(name, _)| name)).collect(),
+        statistics: statistics.iter().map(|s| std::iter::once(s.valid_count as f64).chain(s.named().map(|(_, value)| value)).collect()).collect(),
+        windows: windows.collect(),
+        histograms: statistics.iter().zip(bands).map(|(s, band)| histogram(s, band)).collect(),
+        origin,
+        block_rows,
+        ground: None,
+    })
 }
 
-/// Where the pixels lie, for the page: the six numbers where there are such, and a grid of places to read between. None, and a note, where
-/// GDAL cannot tell.
-fn ground(georeference: &Georeference, rows: usize, cols: usize) -> Outcome<Option<String>> {
+/// None, and a note, where GDAL cannot tell.
+fn ground(georeference: &Georeference, rows: usize, cols: usize) -> Outcome<Option<Ground>> {
     if !georeference.is_there() || rows * cols == 0 {
         return Ok(None);
     }
     let bad = |why: String| Trouble::named("the page's coordinates", why);
+    let bad_answer = |e: std::io::Error| bad(e.to_string());
     let mut fields = wire::Fields::default();
     georeference.put(&mut fields);
     fields.put("rows", rows);
@@ -202,27 +240,27 @@ fn ground(georeference: &Georeference, rows: usize, cols: usize) -> Outcome<Opti
             return Ok(None);
         }
     };
-    let lines = told.all("line").map(|words| wire::floats(words).map_err(|e| bad(e.to_string()))).collect::<Outcome<Vec<_>>>()?;
-    let mut json = Json::default();
-    json.text("crs", &told.text("crs"));
-    json.raw("transform", &georeference.transform.map_or_else(|| "null".into(), |t| numbers(&t)));
-    for name in ["step", "down", "across", "off"] {
-        json.raw(name, &told.text(name));
-    }
-    json.raw("places", &numbers(&lines.concat()));
-    Ok(Some(json.object()))
+    let lines = told.all("line").map(|words| wire::floats(words).map_err(bad_answer)).collect::<Outcome<Vec<_>>>()?;
+    let side = |name: &str| told.number::<usize>(name).map_err(bad_answer);
+    Ok(Some(Ground {
+        crs: told.text("crs"),
+        transform: georeference.transform,
+        step: side("step")?,
+        down: side("down")?,
+        across: side("across")?,
+        off: told.number("off").map_err(bad_answer)?,
+        places: lines.concat(),
+    }))
 }
 
-/// Counts of valid decibels between the least and the greatest, for drawing only.
-fn histogram(s: &Statistics, band: &BandRasters) -> String {
-    let (min, max) = (s.floats[0], s.floats[1]);
-    let mut counts = [0u32; BARS];
+fn histogram(s: &Statistics, band: &BandRasters) -> Histogram {
+    let &Statistics { min_db: min, max_db: max, .. } = s;
+    let mut counts = vec![0u32; BARS];
     for (&v, _) in band.band().db.iter().zip(band.band().valid_mask).filter(|(_, &mark)| mark == 1) {
         let bar = if max > min { ((v - min) / (max - min) * BARS as f64) as usize } else { 0 };
         counts[bar.min(BARS - 1)] += 1;
     }
-    let counts: Vec<String> = counts.iter().map(u32::to_string).collect();
-    format!("{{\"min\":{min},\"max\":{max},\"counts\":[{}]}}", counts.join(","))
+    Histogram { min, max, counts }
 }
 
 fn escaped(text: &str) -> String {

@@ -6,7 +6,7 @@ pub use sarpro::types::{AutoscaleStrategy, PolarizationOperation, SyntheticRgbMo
 
 use AutoscaleStrategy::*;
 
-/// In the order of types.rs: a strategy's or a mode's code is its place here.
+/// In the order of types.rs.
 pub const STRATEGIES: [AutoscaleStrategy; 7] = [Standard, Robust, Adaptive, Equalized, Clahe, Tamed, Default];
 pub const MODES: [SyntheticRgbMode; 4] =
     [SyntheticRgbMode::Default, SyntheticRgbMode::RgbRatio, SyntheticRgbMode::SarUrban, SyntheticRgbMode::Enhanced];

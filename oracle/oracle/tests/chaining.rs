@@ -1,17 +1,16 @@
 //! The picture against its parts, the windows against the statistics, and refusals over both bands.
 use oracle::AutoscaleStrategy::{Adaptive, Clahe, Default, Equalized, Robust, Standard, Tamed};
 use oracle::{Answer, AutoscaleStrategy, Band, Lent, Picture, Sides, SyntheticRgbMode, MODES, STRATEGIES};
+use random::Rng;
 
 /// A scene of its own for each seed: values spread around -15 dB, every tenth pixel invalid with NaN under its mark.
 fn scene(seed: u64, n: usize, spread: f64) -> (Vec<f64>, Vec<u8>) {
-    let mut state = seed;
+    let mut rng = Rng::new(seed);
     let mut db = Vec::new();
     let mut marks = Vec::new();
     for _ in 0..n {
-        state = state.wrapping_mul(6364136223846793005).wrapping_add(1442695040888963407);
-        let unit = (state >> 11) as f64 / (1u64 << 53) as f64;
-        let valid = (state >> 5) % 10 != 0;
-        db.push(if valid { -15.0 + spread * (unit - 0.5) } else { f64::NAN });
+        let valid = !rng.once_in(10);
+        db.push(if valid { -15.0 + spread * (rng.unit() - 0.5) } else { f64::NAN });
         marks.push(valid as u8);
     }
     (db, marks)

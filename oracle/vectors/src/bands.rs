@@ -5,7 +5,7 @@ use random::Rng;
 
 use crate::beside::LARGE;
 use crate::calls::{grey16, grey8, statistics, window, Scene};
-use crate::record::Part;
+use crate::record::{strategy_code, Part};
 use crate::tiles;
 
 const WORK: usize = oracle::table::CLAHE_WORK;
@@ -368,7 +368,7 @@ fn greys(rng: &mut Rng, mut grey: impl FnMut(AutoscaleStrategy, &Scene, usize, u
     }
     for (k, scene) in usual(rng).iter().enumerate() {
         for strategy in STRATEGIES {
-            if k < 12 || (k + strategy as usize) % 3 == 0 {
+            if k < 12 || (k + usize::from(strategy_code(strategy))) % 3 == 0 {
                 grey(strategy, scene, scene.count(), WORK);
             }
         }

@@ -1,7 +1,7 @@
 //! Records of a vector file. README.md has the layout.
 use std::collections::HashSet;
 
-use oracle::{Answer, AutoscaleStrategy, Sides, SyntheticRgbMode, MODES, STRATEGIES};
+use oracle::{Answer, AutoscaleStrategy, Sides, SyntheticRgbMode};
 
 /// No list is longer, so that a program without a heap can read every record.
 pub const LONGEST: usize = 4_096;
@@ -42,6 +42,19 @@ impl Element for f64 {
     }
 }
 
+/// A strategy's code: its place in types.rs.
+pub fn strategy_code(strategy: AutoscaleStrategy) -> u8 {
+    match strategy {
+        AutoscaleStrategy::Standard => 0,
+        AutoscaleStrategy::Robust => 1,
+        AutoscaleStrategy::Adaptive => 2,
+        AutoscaleStrategy::Equalized => 3,
+        AutoscaleStrategy::Clahe => 4,
+        AutoscaleStrategy::Tamed => 5,
+        AutoscaleStrategy::Default => 6,
+    }
+}
+
 pub struct Record {
     op: u8,
     strategy: u8,
@@ -59,12 +72,17 @@ impl Record {
     }
 
     pub fn strategy(mut self, strategy: AutoscaleStrategy) -> Self {
-        self.strategy = STRATEGIES.iter().position(|&s| s == strategy).unwrap() as u8;
+        self.strategy = strategy_code(strategy);
         self
     }
 
     pub fn mode(mut self, mode: SyntheticRgbMode) -> Self {
-        self.mode = MODES.iter().position(|&m| m == mode).unwrap() as u8;
+        self.mode = match mode {
+            SyntheticRgbMode::Default => 0,
+            SyntheticRgbMode::RgbRatio => 1,
+            SyntheticRgbMode::SarUrban => 2,
+            SyntheticRgbMode::Enhanced => 3,
+        };
         self
     }
 
