@@ -12,8 +12,7 @@ pub struct Scene {
 }
 
 /// Sides around those that Clahe accepts and refuses, and small ones.
-const SIDES: [usize; 28] =
-    [0, 1, 2, 3, 4, 5, 6, 7, 8, 9, 13, 14, 15, 16, 17, 20, 21, 24, 25, 28, 32, 33, 35, 40, 41, 42, 43, 50];
+const SIDES: [usize; 28] = [0, 1, 2, 3, 4, 5, 6, 7, 8, 9, 13, 14, 15, 16, 17, 20, 21, 24, 25, 28, 32, 33, 35, 40, 41, 42, 43, 50];
 
 fn ulps(x: f64, n: i64) -> f64 {
     f64::from_bits((x.to_bits() as i64 + n) as u64)

@@ -12,7 +12,9 @@ fn main() {
     };
     let commit = std::env::var("QUICKLOOK_COMMIT").ok().or_else(|| {
         let commit = git(&["rev-parse", "--short=12", "HEAD"])?;
-        let differs = git(&["status", "--porcelain", "--untracked-files=no", "--", "..", "../../crates", "../../Cargo.toml", "../../Cargo.lock", "../../.cargo"]).map_or(true, |text| !text.is_empty());
+        let built_from = ["..", "../../crates", "../../Cargo.toml", "../../Cargo.lock", "../../.cargo"];
+        let status = git(&[&["status", "--porcelain", "--untracked-files=no", "--"], &built_from[..]].concat());
+        let differs = status.is_none_or(|text| !text.is_empty());
         Some(if differs { commit + "+" } else { commit })
     });
     println!("cargo:rustc-env=QUICKLOOK_COMMIT={}", commit.unwrap_or_else(|| "commit unknown".into()));

@@ -46,9 +46,8 @@ fn rust_picture(strategy: AutoscaleStrategy, bands: &[RustBand; 2]) -> (Vec<u8>,
         _ => rust_grey(strategy, BitDepth::U8, &bands[k]).0,
     };
     let (grey1, grey2) = (grey(0), grey(1));
-    let rgb = synthetic_rgb::create_synthetic_rgb_by_mode_and_strategy(
-        oracle::SyntheticRgbMode::Default, strategy_of(strategy), &grey1, &grey2,
-    );
+    let rgb =
+        synthetic_rgb::create_synthetic_rgb_by_mode_and_strategy(oracle::SyntheticRgbMode::Default, strategy_of(strategy), &grey1, &grey2);
     (grey1, grey2, rgb)
 }
 

@@ -71,7 +71,14 @@ fn bands(scene: &Scene) -> ([Band<'_>; 2], [oracle::Band<'_>; 2]) {
 }
 
 fn describe(scene: &Scene) -> String {
-    format!("{} x {}, lent {:?}, marks {:?}, dB {:x?}", scene.rows, scene.cols, scene.lent, scene.marks[0], scene.db[0].iter().take(8).map(|v| v.to_bits()).collect::<Vec<_>>())
+    format!(
+        "{} x {}, lent {:?}, marks {:?}, dB {:x?}",
+        scene.rows,
+        scene.cols,
+        scene.lent,
+        scene.marks[0],
+        scene.db[0].iter().take(8).map(|v| v.to_bits()).collect::<Vec<_>>()
+    )
 }
 
 fn statistics(tally: &mut Tally, scene: &Scene) {
@@ -239,7 +246,10 @@ fn lists(tally: &mut Tally, rng: &mut Rng) {
         });
     }
 
-    let edge = [0, 0x8000_0000, 0x2edb_e6ff, 0x2edb_e700, 0xaedb_e6ff, 0xaedb_e700, 0x3727_c5ab, 0x3727_c5ac, 0x3727_c5ad, 0x7f80_0000, 0xff80_0000, 0x7fc0_0000, 1, 0x8000_0001, 0x7f7f_ffff, 0x0080_0000];
+    let edge = [
+        0, 0x8000_0000, 0x2edb_e6ff, 0x2edb_e700, 0xaedb_e6ff, 0xaedb_e700, 0x3727_c5ab, 0x3727_c5ac, 0x3727_c5ad, 0x7f80_0000,
+        0xff80_0000, 0x7fc0_0000, 1, 0x8000_0001, 0x7f7f_ffff, 0x0080_0000,
+    ];
     let list = |rng: &mut Rng, len: usize| -> Vec<f32> {
         (0..len).map(|_| f32::from_bits(if rng.once_in(2) { rng.one_of(&edge) } else { rng.bits() as u32 })).collect()
     };
@@ -273,7 +283,8 @@ fn lists(tally: &mut Tally, rng: &mut Rng) {
     let mut out = before.clone();
     let answer = engine::pad_u16(rows, cols, &data, &mut out);
     let expected = oracle::padding_u16(sides, &data, before.len());
-    tally.check(engine_number(&answer) == number(&expected) && out == owed(&expected, &before), || format!("padding 16 of {rows} x {cols}"));
+    tally
+        .check(engine_number(&answer) == number(&expected) && out == owed(&expected, &before), || format!("padding 16 of {rows} x {cols}"));
 }
 
 /// Codes that name nothing: 255, and nothing altered.
@@ -296,7 +307,9 @@ fn codes(tally: &mut Tally) {
         let (mut grey1, mut grey2, mut rgb) = (bytes(2), bytes(2), bytes(6));
         let lent = PictureOut { grey1: &mut grey1, grey2: &mut grey2, rgb: &mut rgb };
         let answer = engine::codes::picture(strategy, 0, 1, 2, band, band, lent, &mut []);
-        tally.check(engine_number(&answer) == 255 && grey1 == bytes(2) && grey2 == bytes(2) && rgb == bytes(6), || format!("picture code {strategy}"));
+        tally.check(engine_number(&answer) == 255 && grey1 == bytes(2) && grey2 == bytes(2) && rgb == bytes(6), || {
+            format!("picture code {strategy}")
+        });
     }
     for mode in 4..=255u8 {
         let mut out = bytes(6);
@@ -305,7 +318,9 @@ fn codes(tally: &mut Tally) {
         let (mut grey1, mut grey2, mut rgb) = (bytes(2), bytes(2), bytes(6));
         let lent = PictureOut { grey1: &mut grey1, grey2: &mut grey2, rgb: &mut rgb };
         let answer = engine::codes::picture(6, mode, 1, 2, band, band, lent, &mut []);
-        tally.check(engine_number(&answer) == 255 && grey1 == bytes(2) && grey2 == bytes(2) && rgb == bytes(6), || format!("picture mode {mode}"));
+        tally.check(engine_number(&answer) == 255 && grey1 == bytes(2) && grey2 == bytes(2) && rgb == bytes(6), || {
+            format!("picture mode {mode}")
+        });
     }
 }
 

@@ -164,7 +164,8 @@ impl Statistics {
 
     /// The floats in the record's order, with the names that they are printed by.
     pub fn named(&self) -> [(&'static str, f64); 15] {
-        let Statistics { valid_count: _, min_db, max_db, mean_db, std_db, median_db, p01, p02, p05, p10, p25, p75, p90, p95, p98, p99 } = *self;
+        let Statistics { valid_count: _, min_db, max_db, mean_db, std_db, median_db, p01, p02, p05, p10, p25, p75, p90, p95, p98, p99 } =
+            *self;
         [
             ("min", min_db),
             ("max", max_db),
@@ -203,8 +204,8 @@ pub mod c {
     extern "C" {
         pub fn quicklook_marks(processed: *const f32, processed_len: usize, valid_mask: *mut u8, valid_mask_len: usize) -> u8;
         pub fn quicklook_statistics(
-            rows: usize, cols: usize, db: *const f64, db_len: usize, valid_mask: *const u8, valid_mask_len: usize,
-            valid_count: *mut u64, floats: *mut [f64; 15],
+            rows: usize, cols: usize, db: *const f64, db_len: usize, valid_mask: *const u8, valid_mask_len: usize, valid_count: *mut u64,
+            floats: *mut [f64; 15],
         ) -> u8;
         pub fn quicklook_window(
             strategy: u8, rows: usize, cols: usize, db: *const f64, db_len: usize, valid_mask: *const u8, valid_mask_len: usize,
@@ -329,12 +330,20 @@ pub fn operate(operation: PolarizationOperation, a: &[f32], b: &[f32], out: &mut
 
 /// The calls by codes and lent memory, as the archive has them; tests use them for codes that name nothing and for memory left alone.
 pub mod codes {
-    use super::{c, call, Answer, Band, PictureOut};
+    use super::{Answer, Band, PictureOut, c, call};
 
     pub fn window(strategy: u8, rows: usize, cols: usize, band: Band, blank: &mut u8, floats: &mut [f64; 4]) -> Answer<()> {
         call(|| unsafe {
             c::quicklook_window(
-                strategy, rows, cols, band.db.as_ptr(), band.db.len(), band.valid_mask.as_ptr(), band.valid_mask.len(), blank, floats,
+                strategy,
+                rows,
+                cols,
+                band.db.as_ptr(),
+                band.db.len(),
+                band.valid_mask.as_ptr(),
+                band.valid_mask.len(),
+                blank,
+                floats,
             )
         })
     }
@@ -342,38 +351,57 @@ pub mod codes {
     pub fn statistics(rows: usize, cols: usize, band: Band, valid_count: &mut u64, floats: &mut [f64; 15]) -> Answer<()> {
         call(|| unsafe {
             c::quicklook_statistics(
-                rows, cols, band.db.as_ptr(), band.db.len(), band.valid_mask.as_ptr(), band.valid_mask.len(), valid_count, floats,
+                rows,
+                cols,
+                band.db.as_ptr(),
+                band.db.len(),
+                band.valid_mask.as_ptr(),
+                band.valid_mask.len(),
+                valid_count,
+                floats,
             )
         })
     }
 
-    pub fn grey_u8(
-        strategy: u8, rows: usize, cols: usize, band: Band, out: &mut [u8], work: &mut [f64],
-    ) -> Answer<()> {
+    pub fn grey_u8(strategy: u8, rows: usize, cols: usize, band: Band, out: &mut [u8], work: &mut [f64]) -> Answer<()> {
         call(|| unsafe {
             c::quicklook_grey_u8(
-                strategy, rows, cols, band.db.as_ptr(), band.db.len(), band.valid_mask.as_ptr(), band.valid_mask.len(),
-                out.as_mut_ptr(), out.len(), work.as_mut_ptr(), work.len(),
+                strategy,
+                rows,
+                cols,
+                band.db.as_ptr(),
+                band.db.len(),
+                band.valid_mask.as_ptr(),
+                band.valid_mask.len(),
+                out.as_mut_ptr(),
+                out.len(),
+                work.as_mut_ptr(),
+                work.len(),
             )
         })
     }
 
-    pub fn grey_u16(
-        strategy: u8, rows: usize, cols: usize, band: Band, out: &mut [u16], work: &mut [f64],
-    ) -> Answer<()> {
+    pub fn grey_u16(strategy: u8, rows: usize, cols: usize, band: Band, out: &mut [u16], work: &mut [f64]) -> Answer<()> {
         call(|| unsafe {
             c::quicklook_grey_u16(
-                strategy, rows, cols, band.db.as_ptr(), band.db.len(), band.valid_mask.as_ptr(), band.valid_mask.len(),
-                out.as_mut_ptr(), out.len(), work.as_mut_ptr(), work.len(),
+                strategy,
+                rows,
+                cols,
+                band.db.as_ptr(),
+                band.db.len(),
+                band.valid_mask.as_ptr(),
+                band.valid_mask.len(),
+                out.as_mut_ptr(),
+                out.len(),
+                work.as_mut_ptr(),
+                work.len(),
             )
         })
     }
 
     pub fn compose(mode: u8, strategy: u8, band1: &[u8], band2: &[u8], rgb: &mut [u8]) -> Answer<()> {
         call(|| unsafe {
-            c::quicklook_compose(
-                mode, strategy, band1.as_ptr(), band1.len(), band2.as_ptr(), band2.len(), rgb.as_mut_ptr(), rgb.len(),
-            )
+            c::quicklook_compose(mode, strategy, band1.as_ptr(), band1.len(), band2.as_ptr(), band2.len(), rgb.as_mut_ptr(), rgb.len())
         })
     }
 
@@ -382,9 +410,25 @@ pub mod codes {
     ) -> Answer<()> {
         call(|| unsafe {
             c::quicklook_picture(
-                strategy, mode, rows, cols, band1.db.as_ptr(), band1.db.len(), band1.valid_mask.as_ptr(), band1.valid_mask.len(),
-                band2.db.as_ptr(), band2.db.len(), band2.valid_mask.as_ptr(), band2.valid_mask.len(), out.grey1.as_mut_ptr(),
-                out.grey1.len(), out.grey2.as_mut_ptr(), out.grey2.len(), out.rgb.as_mut_ptr(), out.rgb.len(), work.as_mut_ptr(),
+                strategy,
+                mode,
+                rows,
+                cols,
+                band1.db.as_ptr(),
+                band1.db.len(),
+                band1.valid_mask.as_ptr(),
+                band1.valid_mask.len(),
+                band2.db.as_ptr(),
+                band2.db.len(),
+                band2.valid_mask.as_ptr(),
+                band2.valid_mask.len(),
+                out.grey1.as_mut_ptr(),
+                out.grey1.len(),
+                out.grey2.as_mut_ptr(),
+                out.grey2.len(),
+                out.rgb.as_mut_ptr(),
+                out.rgb.len(),
+                work.as_mut_ptr(),
                 work.len(),
             )
         })

@@ -72,9 +72,8 @@ extern "C" {
         band: Handle, direction: c_int, col: c_int, row: c_int, cols: c_int, rows: c_int, buffer: *mut c_void, buffer_cols: c_int,
         buffer_rows: c_int, buffer_type: c_int, pixel_space: c_int, line_space: c_int,
     ) -> c_int;
-    pub fn GDALCreate(
-        driver: Handle, name: *const c_char, cols: c_int, rows: c_int, bands: c_int, kind: c_int, options: Strings,
-    ) -> Handle;
+    pub fn GDALCreate(driver: Handle, name: *const c_char, cols: c_int, rows: c_int, bands: c_int, kind: c_int, options: Strings)
+    -> Handle;
     pub fn GDALCreateCopy(
         driver: Handle, name: *const c_char, source: Handle, strict: c_int, options: Strings, progress: *const c_void, data: *mut c_void,
     ) -> Handle;

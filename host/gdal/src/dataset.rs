@@ -2,13 +2,13 @@
 //! `unsafe` about GDAL; nothing here decides anything about pixels.
 
 use crate::c;
-use crate::ground::{crs_words, Crs, GcpList};
+use crate::ground::{Crs, GcpList, crs_words};
 use std::ffi::{CStr, CString};
 use std::marker::PhantomData;
 use std::os::raw::{c_char, c_int, c_void};
 use std::ptr::{null, null_mut};
-use std::sync::atomic::{AtomicBool, Ordering::SeqCst};
 use std::sync::Mutex;
+use std::sync::atomic::{AtomicBool, Ordering::SeqCst};
 use wire::{Crs as CrsWords, Gcp, Part};
 
 /// What GDAL said since the last `take_messages`: errors and warnings, in their order.
@@ -72,7 +72,9 @@ pub fn threads() -> &'static str {
 /// No more address space, memory and processor time than these, or than whoever started the program allows, so that a hostile file ends
 /// the reader and nothing else.
 pub fn limit(address_bytes: u64, memory_bytes: u64, seconds: u64) {
-    for (resource, most) in [(libc::RLIMIT_AS, address_bytes), (libc::RLIMIT_DATA, memory_bytes), (libc::RLIMIT_CPU, seconds), (libc::RLIMIT_CORE, 0)] {
+    for (resource, most) in
+        [(libc::RLIMIT_AS, address_bytes), (libc::RLIMIT_DATA, memory_bytes), (libc::RLIMIT_CPU, seconds), (libc::RLIMIT_CORE, 0)]
+    {
         let mut bounds = libc::rlimit { rlim_cur: most, rlim_max: most };
         unsafe { libc::getrlimit(resource, &mut bounds) };
         if [libc::RLIMIT_AS, libc::RLIMIT_DATA].contains(&resource) && bounds.rlim_cur < most {
@@ -145,8 +147,19 @@ pub enum Type {
 
 impl Type {
     const ALL: [Type; 13] = [
-        Type::Byte, Type::UInt16, Type::Int16, Type::UInt32, Type::Int32, Type::Float32, Type::Float64, Type::CInt16, Type::CInt32,
-        Type::CFloat32, Type::CFloat64, Type::UInt64, Type::Int64,
+        Type::Byte,
+        Type::UInt16,
+        Type::Int16,
+        Type::UInt32,
+        Type::Int32,
+        Type::Float32,
+        Type::Float64,
+        Type::CInt16,
+        Type::CInt32,
+        Type::CFloat32,
+        Type::CFloat64,
+        Type::UInt64,
+        Type::Int64,
     ];
 
     pub fn width(self) -> usize {
@@ -186,11 +199,21 @@ impl Dataset {
     }
 
     /// A new dataset of a driver that can make one; options as the driver names them.
-    pub fn create(driver: &str, name: &str, rows: usize, cols: usize, bands: usize, kind: Type, options: &[&str]) -> Result<Dataset, String> {
+    pub fn create(
+        driver: &str, name: &str, rows: usize, cols: usize, bands: usize, kind: Type, options: &[&str],
+    ) -> Result<Dataset, String> {
         let options = Options::new(options);
         let driver = driver_of(driver)?;
         let made = unsafe {
-            c::GDALCreate(driver, text(name).as_ptr(), cols as c_int, rows as c_int, bands as c_int, kind as c_int, options.pointers.as_ptr())
+            c::GDALCreate(
+                driver,
+                text(name).as_ptr(),
+                cols as c_int,
+                rows as c_int,
+                bands as c_int,
+                kind as c_int,
+                options.pointers.as_ptr(),
+            )
         };
         if made.is_null() { Err(error("GDAL does not create it")) } else { Ok(Dataset(made)) }
     }
@@ -199,9 +222,7 @@ impl Dataset {
     pub fn copy(&self, driver: &str, name: &str, options: &[&str]) -> Result<Dataset, String> {
         let options = Options::new(options);
         let driver = driver_of(driver)?;
-        let made = unsafe {
-            c::GDALCreateCopy(driver, text(name).as_ptr(), self.0, 1, options.pointers.as_ptr(), null(), null_mut())
-        };
+        let made = unsafe { c::GDALCreateCopy(driver, text(name).as_ptr(), self.0, 1, options.pointers.as_ptr(), null(), null_mut()) };
         if made.is_null() { Err(error("GDAL does not write it")) } else { Ok(Dataset(made)) }
     }
 
@@ -451,7 +472,17 @@ impl Band<'_> {
         let (rows, cols) = (part.rows as c_int, part.cols as c_int);
         let failed = unsafe {
             c::GDALRasterIO(
-                self.0, direction, part.col as c_int, part.row as c_int, cols, rows, bytes, cols, rows, kind as c_int, pixel_space as c_int,
+                self.0,
+                direction,
+                part.col as c_int,
+                part.row as c_int,
+                cols,
+                rows,
+                bytes,
+                cols,
+                rows,
+                kind as c_int,
+                pixel_space as c_int,
                 (pixel_space * part.cols) as c_int,
             )
         } != 0;

@@ -1,7 +1,7 @@
 //! Where rasters lie: reference systems, ground control points, and ways from one coordinate to another.
 
 use crate::c;
-use crate::dataset::{error, string, text, Options};
+use crate::dataset::{Options, error, string, text};
 use std::ffi::CString;
 use std::os::raw::{c_char, c_double, c_int, c_void};
 use std::ptr::{null, null_mut};

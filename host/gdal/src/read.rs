@@ -90,7 +90,7 @@ pub fn band(dataset: &Dataset, number: usize) -> Result<Fields, String> {
         for number in 1..=source.bands() {
             let band = source.band(number)?;
             inverted |= is_inverted(&band);
-            packed = if bits(&band) % 8 == 0 { packed } else { bits(&band) };
+            packed = if bits(&band).is_multiple_of(8) { packed } else { bits(&band) };
         }
         Ok(())
     })?;
@@ -321,9 +321,11 @@ fn sound_file(dataset: &Dataset) -> Result<(), String> {
         return Err("an animated PNG: which of its pictures is meant?".into());
     }
     if driver == "GTiff" && dataset.metadata_item("PREDICTOR", "IMAGE_STRUCTURE").as_deref() == Some("3") && is_big_endian(dataset) {
-        return Err("a big-endian TIFF with predictor 3: libtiff writes the bytes of such floats in one order and reads them in the other, so \
+        return Err(
+            "a big-endian TIFF with predictor 3: libtiff writes the bytes of such floats in one order and reads them in the other, so \
                     the two kinds of file cannot be told apart. Write it again, little-endian or with another predictor"
-            .into());
+                .into(),
+        );
     }
     if driver == "VRT" && vrt_text(dataset).contains("VRTRawRasterBand") {
         return Err("a VRT over raw bytes, whose length nobody checks; name the raw file with a header of its own (ENVI)".into());
@@ -392,7 +394,7 @@ fn sound_blocks(dataset: &Dataset, band: &Band, part: Part) -> Result<(), String
             let item = |what: &str| band.metadata_item(&format!("BLOCK_{what}_{x}_{y}"), "TIFF").and_then(|word| word.parse::<u64>().ok());
             let (Some(offset), Some(size)) = (item("OFFSET"), item("SIZE")) else { continue };
             let damaged = |what: &str| Err(format!("damaged: the block at row {}, column {} {what}", y * rows, x * cols));
-            if size > 0 && (offset < HEADER || offset.checked_add(size).map_or(true, |end| end > length)) {
+            if size > 0 && (offset < HEADER || offset.checked_add(size).is_none_or(|end| end > length)) {
                 return damaged("is not within the file");
             }
             if !is_deflated {

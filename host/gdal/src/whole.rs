@@ -5,7 +5,8 @@ use crate::dataset::{Dataset, RawFile};
 
 /// Why the dataset's file is not whole, where its driver would not say so.
 pub fn cut_short(dataset: &Dataset) -> Option<String> {
-    let files: Vec<RawFile> = dataset.files().iter().filter(|name| !name.ends_with(".xml")).filter_map(|name| RawFile::open(name).ok()).collect();
+    let files: Vec<RawFile> =
+        dataset.files().iter().filter(|name| !name.ends_with(".xml")).filter_map(|name| RawFile::open(name).ok()).collect();
     let (file, wanted) = match dataset.driver().as_str() {
         "netCDF" => (files.first()?, classic_netcdf(files.first()?)?),
         "PCIDSK" => (files.first()?, pcidsk(files.first()?)?),

@@ -24,9 +24,9 @@ pub fn raster(fields: &Fields, input: &mut impl Read) -> io::Result<Result<(), S
     Pieces::new(input).read_to_end(&mut pixels)?;
     let mut mask = Vec::new();
     Pieces::new(input).read_to_end(&mut mask)?;
-    let fits = rows.checked_mul(cols).is_some_and(|n| {
-        n.checked_mul(bands * kind.width()) == Some(pixels.len()) && (mask.is_empty() || mask.len() == n)
-    });
+    let fits = rows
+        .checked_mul(cols)
+        .is_some_and(|n| n.checked_mul(bands * kind.width()) == Some(pixels.len()) && (mask.is_empty() || mask.len() == n));
     if !fits || !(bands == 1 || bands == 3) {
         return Ok(Err("a raster that is not as long as its sides say".into()));
     }

@@ -31,7 +31,11 @@ pub struct Stamp {
 
 impl From<&Metadata> for Stamp {
     fn from(there: &Metadata) -> Self {
-        Stamp { file: (there.dev(), there.ino()), len: there.len(), changed: [(there.mtime(), there.mtime_nsec()), (there.ctime(), there.ctime_nsec())] }
+        Stamp {
+            file: (there.dev(), there.ino()),
+            len: there.len(),
+            changed: [(there.mtime(), there.mtime_nsec()), (there.ctime(), there.ctime_nsec())],
+        }
     }
 }
 
@@ -39,7 +43,7 @@ impl From<&Metadata> for Stamp {
 pub fn open_plain(path: &Path) -> io::Result<(File, Metadata)> {
     let file = OpenOptions::new().read(true).custom_flags(libc::O_NONBLOCK).open(path)?;
     let there = file.metadata()?;
-    if there.is_file() { Ok((file, there)) } else { Err(io::Error::new(io::ErrorKind::Other, "not a plain file")) }
+    if there.is_file() { Ok((file, there)) } else { Err(io::Error::other("not a plain file")) }
 }
 
 impl Bytes {

@@ -11,7 +11,7 @@ use crate::outputs;
 use crate::parts::Parts;
 use crate::progress::{note, step};
 use crate::said::Role;
-use crate::scene::{self, judge_limit, same_sides, tell_elsewhere, Scene, Wanted};
+use crate::scene::{self, Scene, Wanted, judge_limit, same_sides, tell_elsewhere};
 use crate::sheet::{self, Picture, Sheet};
 use crate::source::{List, Name, Source};
 use crate::threads;
@@ -38,7 +38,9 @@ pub fn run(command: Command) -> Outcome<()> {
         Command::Picture { scene, strategy, mode, out, grey1, grey2, form } => {
             picture(&scene, strategy.into(), mode.into(), [Some(out), grey1, grey2], form)
         }
-        Command::Compose { band1, band2, part, strategy, mode, out, form } => compose([&band1, &band2], part, strategy.into(), mode.into(), &out, form),
+        Command::Compose { band1, band2, part, strategy, mode, out, form } => {
+            compose([&band1, &band2], part, strategy.into(), mode.into(), &out, form)
+        }
         Command::Stretch { grey, part, out, form } => stretch(&grey, part, &out, form),
         Command::Pad { grey, part, out, form } => pad(&grey, part, &out, form),
         Command::Op { operation, a, b, part, out, form } => operate(operation.into(), [&a, &b], part, &out, form),
@@ -125,7 +127,12 @@ fn judge_length(source: &Source, part: Part) -> Outcome<()> {
         return Ok(());
     }
     let name = &source.shown;
-    Err(Trouble::Refused(2, format!("{name} has {rows} rows of {cols}, and the list may have 16,777,216 elements; read a part of it with --crop ROW,COL,ROWS,COLS")))
+    Err(Trouble::Refused(
+        2,
+        format!(
+            "{name} has {rows} rows of {cols}, and the list may have 16,777,216 elements; read a part of it with --crop ROW,COL,ROWS,COLS"
+        ),
+    ))
 }
 
 /// Valid in both, where either says.
@@ -351,7 +358,9 @@ fn picture(files: &SceneFiles, strategy: AutoscaleStrategy, mode: SyntheticRgbMo
     let origin = origin?;
     let common = scene.common_marks()?;
     let save = |path: &Option<PathBuf>, picture: Picture, marks: &[u8]| match path {
-        Some(path) => sheet::write(path, &Sheet { rows, cols, picture, marks: Some(marks), georeference: &scene.georeference, origin: &origin, form }),
+        Some(path) => {
+            sheet::write(path, &Sheet { rows, cols, picture, marks: Some(marks), georeference: &scene.georeference, origin: &origin, form })
+        }
         None => Ok(Parts::default()),
     };
     step("writing", || {
@@ -426,7 +435,9 @@ fn operate(operation: PolarizationOperation, names: [&OsStr; 2], part: PartOf, o
     step("arithmetic", || engine::operate(operation, of_a.elements(), of_b.elements(), &mut result))?;
     let marks = both(a.own_marks()?, b.own_marks()?);
     if let Some(invalid) = marks.as_ref().map(|marks| marks.iter().filter(|mark| **mark == 0).count()).filter(|invalid| *invalid > 0) {
-        note(&format!("{invalid} pixels are invalid by the rasters' own nodata, mask or alpha: what stands there in the result is no answer"));
+        note(&format!(
+            "{invalid} pixels are invalid by the rasters' own nodata, mask or alpha: what stands there in the result is no answer"
+        ));
     }
     a.write("op", out, Picture::F32(&result), marks.as_deref(), form)
 }

@@ -101,7 +101,8 @@ pub fn run(folder: &Path, side: usize, force: bool) -> Outcome<()> {
 
     let band = |k: usize| Band { db: &made[k].0, valid_mask: &made[k].1 };
     for strategy in [AutoscaleStrategy::Default, AutoscaleStrategy::Tamed, AutoscaleStrategy::Clahe] {
-        let (mut grey1, mut grey2, mut rgb) = (memory::zeros(n, "a picture")?, memory::zeros(n, "a picture")?, memory::zeros(3 * n, "a picture")?);
+        let (mut grey1, mut grey2, mut rgb) =
+            (memory::zeros(n, "a picture")?, memory::zeros(n, "a picture")?, memory::zeros(3 * n, "a picture")?);
         let mut work = vec![0f64; strategy.work_len()];
         let lent = PictureOut { grey1: &mut grey1, grey2: &mut grey2, rgb: &mut rgb };
         let name = strategy.name();

@@ -22,9 +22,8 @@ pub enum Kind {
 }
 
 impl Kind {
-    const ALL: [Kind; 12] = [
-        Kind::F64, Kind::F32, Kind::F16, Kind::I64, Kind::I32, Kind::I16, Kind::I8, Kind::U64, Kind::U32, Kind::U16, Kind::U8, Kind::Bool,
-    ];
+    const ALL: [Kind; 12] =
+        [Kind::F64, Kind::F32, Kind::F16, Kind::I64, Kind::I32, Kind::I16, Kind::I8, Kind::U64, Kind::U32, Kind::U16, Kind::U8, Kind::Bool];
 
     pub fn of_name(name: &str) -> Option<Self> {
         Self::ALL.into_iter().find(|kind| kind.name() == name)
@@ -71,7 +70,10 @@ pub enum Stop {
     Stream(io::Error),
     Memory(Trouble),
     /// The element at this place has a value that the list cannot hold.
-    Element { at: usize, value: String },
+    Element {
+        at: usize,
+        value: String,
+    },
 }
 
 impl From<io::Error> for Stop {
@@ -122,7 +124,11 @@ pub fn read<T>(input: &mut impl Read, layout: Layout, count: usize, take: impl F
 fn widen(kind: Kind, bytes: &[u8], numbers: &mut Vec<f64>) -> Result<(), (usize, String)> {
     macro_rules! each {
         ($type:ty) => {
-            numbers.extend(bytes.chunks_exact(std::mem::size_of::<$type>()).map(|b| f64::from(<$type>::from_le_bytes(b.try_into().expect("its width")))))
+            numbers.extend(
+                bytes
+                    .chunks_exact(std::mem::size_of::<$type>())
+                    .map(|b| f64::from(<$type>::from_le_bytes(b.try_into().expect("its width")))),
+            )
         };
     }
     macro_rules! each_held {
@@ -191,7 +197,15 @@ mod tests {
 
     #[test]
     fn halves() {
-        for (bits, value) in [(0x3c00, 1.0), (0xc000, -2.0), (0x7bff, 65504.0), (0x0001, 2f64.powi(-24)), (0x03ff, 1023.0 * 2f64.powi(-24)), (0x3555, 0.333251953125), (0x7c00, f64::INFINITY)] {
+        for (bits, value) in [
+            (0x3c00, 1.0),
+            (0xc000, -2.0),
+            (0x7bff, 65504.0),
+            (0x0001, 2f64.powi(-24)),
+            (0x03ff, 1023.0 * 2f64.powi(-24)),
+            (0x3555, 0.333251953125),
+            (0x7c00, f64::INFINITY),
+        ] {
             assert_eq!(half(bits), value, "{bits:x}");
         }
         assert!(half(0x7e00).is_nan());

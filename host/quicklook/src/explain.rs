@@ -1,6 +1,6 @@
 //! Refusals in words that help: which file, band, pixel and value, and what to do. Looks only after the engine has refused; it decides nothing.
 
-use crate::scene::{wrong_mark, Scene};
+use crate::scene::{Scene, wrong_mark};
 use crate::trouble::Trouble;
 use engine::{AutoscaleStrategy, Refusal, Window};
 
@@ -68,12 +68,20 @@ fn gammas(scene: &Scene, strategy: AutoscaleStrategy) -> Option<Trouble> {
         .bands
         .iter()
         .filter_map(|band| match engine::window(strategy, scene.rows, scene.cols, band.band()) {
-            Ok(Window::Window { gamma, .. }) if gamma != 1.0 => Some(format!("{}, band {}: {strategy:?} chooses gamma {gamma}", band.db_name, band.band)),
+            Ok(Window::Window { gamma, .. }) if gamma != 1.0 => {
+                Some(format!("{}, band {}: {strategy:?} chooses gamma {gamma}", band.db_name, band.band))
+            }
             _ => None,
         })
         .collect();
     if wrong.is_empty() {
         return None;
     }
-    Some(Trouble::Refused(6, format!("{}; only gamma 1.0 is painted. Take another strategy: default, robust, equalized, tamed and clahe always choose 1.0", wrong.join("; "))))
+    Some(Trouble::Refused(
+        6,
+        format!(
+            "{}; only gamma 1.0 is painted. Take another strategy: default, robust, equalized, tamed and clahe always choose 1.0",
+            wrong.join("; ")
+        ),
+    ))
 }

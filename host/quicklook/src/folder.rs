@@ -2,7 +2,7 @@
 
 use crate::bytes::open_plain;
 use crate::origin::checksum;
-use crate::parts::{is_part, Parts};
+use crate::parts::{Parts, is_part};
 use crate::sheet;
 use crate::standing::Fleeting;
 use crate::trouble::{Outcome, Trouble};
@@ -15,9 +15,9 @@ use std::path::{Path, PathBuf};
 
 /// All files that a demo may make.
 const NAMES: [&str; 17] = [
-    "vv-intensity.npy", "vv.npy", "vv-marks.npy", "vv-grey16.png", "vh-intensity.npy", "vh.npy", "vh-marks.npy", "vh-grey16.png", "default-rgb.png",
-    "default-grey1.png", "default-grey2.png", "tamed-rgb.png", "tamed-grey1.png", "tamed-grey2.png", "clahe-rgb.png", "clahe-grey1.png",
-    "clahe-grey2.png",
+    "vv-intensity.npy", "vv.npy", "vv-marks.npy", "vv-grey16.png", "vh-intensity.npy", "vh.npy", "vh-marks.npy", "vh-grey16.png",
+    "default-rgb.png", "default-grey1.png", "default-grey2.png", "tamed-rgb.png", "tamed-grey1.png", "tamed-grey2.png", "clahe-rgb.png",
+    "clahe-grey1.png", "clahe-grey2.png",
 ];
 
 /// The list: checksums and names in the words of sha256sum, as comments those of files that the next ones replace.
@@ -90,7 +90,11 @@ impl Folder {
         for (name, digest) in &made {
             let _ = writeln!(list, "{digest}  {name}");
         }
-        let replaced: Vec<Made> = NAMES.iter().filter_map(|name| self.made_of(name)).filter(|(digest, name)| !made.contains(&(name.to_string(), digest.clone()))).collect();
+        let replaced: Vec<Made> = NAMES
+            .iter()
+            .filter_map(|name| self.made_of(name))
+            .filter(|(digest, name)| !made.contains(&(name.to_string(), digest.clone())))
+            .collect();
         for (digest, name) in &replaced {
             let _ = writeln!(list, "# {digest}  {name}");
         }

@@ -37,7 +37,8 @@ impl Process {
         // Any variable may be one of GDAL's options, and change what it reads.
         let kept = KEPT.iter().filter_map(|name| Some((*name, std::env::var_os(name)?)));
         let started = Command::new(&path).env_clear().envs(kept).stdin(Stdio::piped()).stdout(Stdio::piped()).stderr(Stdio::null()).spawn();
-        let mut child = started.map_err(|e| format!("GDAL's part of the program, {}, does not start: {e}", PathBuf::from(&path).display()))?;
+        let mut child =
+            started.map_err(|e| format!("GDAL's part of the program, {}, does not start: {e}", PathBuf::from(&path).display()))?;
         let (Some(input), Some(output)) = (child.stdin.take(), child.stdout.take()) else {
             return Err("GDAL's part of the program has no pipes".into());
         };
@@ -191,7 +192,9 @@ impl<T: AsRawFd> Patient<T> {
             let mut poll = libc::pollfd { fd: self.end.as_raw_fd(), events: self.event, revents: 0 };
             match unsafe { libc::poll(&mut poll, 1, LONGEST) } {
                 0 => return Err(io::ErrorKind::TimedOut.into()),
-                ready if ready < 0 && io::Error::last_os_error().kind() != io::ErrorKind::Interrupted => return Err(io::Error::last_os_error()),
+                ready if ready < 0 && io::Error::last_os_error().kind() != io::ErrorKind::Interrupted => {
+                    return Err(io::Error::last_os_error());
+                }
                 _ => {}
             }
         }

@@ -32,7 +32,7 @@ use clap::Parser;
 use progress::note;
 use std::panic::{self, AssertUnwindSafe};
 use std::process::ExitCode;
-use trouble::{Outcome, Trouble, INTERNAL_STATUS};
+use trouble::{INTERNAL_STATUS, Outcome, Trouble};
 
 fn main() -> ExitCode {
     signals::start();

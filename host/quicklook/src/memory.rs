@@ -2,7 +2,7 @@
 //! status, its part files removed, instead of by a signal.
 
 use crate::signals;
-use crate::trouble::{Outcome, Trouble, MEMORY_STATUS};
+use crate::trouble::{MEMORY_STATUS, Outcome, Trouble};
 use std::alloc::{GlobalAlloc, Layout, System};
 use std::cell::Cell;
 use std::io::Write;

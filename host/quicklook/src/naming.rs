@@ -6,7 +6,7 @@ use crate::parts::{self, Part};
 use crate::progress::note;
 use crate::rights;
 use crate::signals;
-use crate::standing::{id, Fleeting, Id};
+use crate::standing::{Fleeting, Id, id};
 use crate::trouble::{Outcome, Trouble};
 use std::collections::BTreeMap;
 use std::ffi::CString;
@@ -94,15 +94,15 @@ impl Ready {
                 Err(e) if e.kind() == io::ErrorKind::AlreadyExists => return Err(taken()),
                 moved => moved?,
             }
-            return Ok(Named { shown, way_back: standing.is_new(place, new), had_earlier: false, _held: [Some(file), None] });
+            return Ok(Named { shown, way_back: standing.becomes_new(place, new), had_earlier: false, _held: [Some(file), None] });
         };
         let way_back = match move_at_once(&standing.path, &target.place, libc::RENAME_EXCHANGE) {
             Ok(()) => {
-                let way_back = standing.is_earlier(place, new);
+                let way_back = standing.becomes_earlier(place, new);
                 // What came must be what was looked at; else it goes back.
                 if fs::symlink_metadata(&way_back.path).as_ref().map(id).ok() != Some(id(&there)) {
                     if move_at_once(&way_back.path, &target.place, libc::RENAME_EXCHANGE).is_ok() {
-                        way_back.is_part();
+                        way_back.becomes_part();
                     }
                     return Err(taken());
                 }
@@ -113,7 +113,7 @@ impl Ready {
                 unchanged(&target, Some(&there))?;
                 fs::rename(&standing.path, &target.place)?;
                 standing.keep();
-                second.is_earlier(place, new)
+                second.becomes_earlier(place, new)
             }
             Err(e) => return Err(e),
         };
@@ -226,7 +226,9 @@ fn sync(folders: &BTreeMap<Id, PathBuf>) -> Outcome<()> {
     for folder in folders.values() {
         match File::open(folder).and_then(|opened| opened.sync_all()) {
             // Some file systems have no such thing for folders, and some folders may be written but not listed.
-            Err(e) if !matches!(e.raw_os_error(), Some(libc::EINVAL | libc::ENOTSUP | libc::EACCES)) => return Err(Trouble::file(folder, e)),
+            Err(e) if !matches!(e.raw_os_error(), Some(libc::EINVAL | libc::ENOTSUP | libc::EACCES)) => {
+                return Err(Trouble::file(folder, e));
+            }
             _ => {}
         }
     }

@@ -50,7 +50,8 @@ pub fn header(path: &Path, bytes: &[u8], len: u64) -> Outcome<Header> {
     if rows.max(cols) > i32::MAX as usize {
         return Err(bad("a shape that is too large"));
     }
-    let wanted = rows.checked_mul(cols).and_then(|n| n.checked_mul(layout.kind.width())).ok_or_else(|| bad("a shape that is too large"))? as u64;
+    let wanted =
+        rows.checked_mul(cols).and_then(|n| n.checked_mul(layout.kind.width())).ok_or_else(|| bad("a shape that is too large"))? as u64;
     match len - start as u64 {
         there if there < wanted => Err(bad(&format!("truncated: {there} of {wanted} bytes of elements"))),
         there if there > wanted => Err(bad(&format!("{} bytes beyond the last element", there - wanted))),
@@ -164,7 +165,11 @@ mod tests {
             assert!(read(&whole(&header)).unwrap_err().contains("element type"), "{descr}");
         }
         assert!(read(&whole("{'descr': '<f8', 'fortran_order': False, 'shape': (1,), }")).unwrap_err().contains("1 dimensions"));
-        assert!(read(&whole("{'descr': '<f8', 'fortran_order': False, 'shape': (99999999999, 99999999999), }")).unwrap_err().contains("too large"));
+        assert!(
+            read(&whole("{'descr': '<f8', 'fortran_order': False, 'shape': (99999999999, 99999999999), }"))
+                .unwrap_err()
+                .contains("too large")
+        );
         assert!(read(&whole("{'descr': '<f8', 'fortran_order': False, 'shape': (1, -1), }")).unwrap_err().contains("shape"));
         assert!(read(&whole("{'fortran_order': False, 'shape': (1, 1), }")).unwrap_err().contains("element type"));
     }

@@ -1,7 +1,7 @@
 //! Where a result came from: program and commit, strategy, windows, and the checksums of the input files. Outputs that can carry it do.
 
 use crate::arguments::VERSION;
-use crate::bytes::{open_plain, Stamp};
+use crate::bytes::{Stamp, open_plain};
 use crate::scene::Scene;
 use crate::threads;
 use crate::trouble::{Outcome, Trouble};

@@ -1,6 +1,6 @@
 //! Where outputs go, judged before any work is done: links followed; folders, pipes and devices refused; no two of one name.
 
-use crate::standing::{id, Id};
+use crate::standing::{Id, id};
 use crate::trouble::{Outcome, Trouble};
 use std::ffi::CString;
 use std::fs::{self, Metadata};
@@ -82,7 +82,11 @@ pub fn judge(paths: &[PathBuf], force: bool) -> Outcome<()> {
     let targets = paths.iter().map(|path| Target::of(path, force)).collect::<Outcome<Vec<_>>>()?;
     for (k, one) in targets.iter().enumerate() {
         if let Some(other) = targets[..k].iter().find(|other| one.is(other)) {
-            return Err(Trouble::Usage(format!("{} and {} are one file, and two outputs are to go there", other.shown.display(), one.shown.display())));
+            return Err(Trouble::Usage(format!(
+                "{} and {} are one file, and two outputs are to go there",
+                other.shown.display(),
+                one.shown.display()
+            )));
         }
     }
     Ok(())

@@ -96,7 +96,8 @@ pub fn create(target: &Target) -> io::Result<(File, Fleeting)> {
     const TRIES: usize = 8;
     let mode = if target.earlier.is_some() { 0o600 } else { 0o666 };
     for _ in 0..TRIES {
-        let open = |path: &Path| OpenOptions::new().read(true).write(true).create_new(true).mode(mode).custom_flags(libc::O_NOFOLLOW).open(path);
+        let open =
+            |path: &Path| OpenOptions::new().read(true).write(true).create_new(true).mode(mode).custom_flags(libc::O_NOFOLLOW).open(path);
         let (file, standing) = match Fleeting::new(new_name(target)?)?.made(open) {
             Err(e) if e.kind() == io::ErrorKind::AlreadyExists => continue,
             made => made?,

@@ -68,9 +68,8 @@ fn without_group(rights: u32) -> u32 {
     rights & 0o7707 | (rights & 0o007) << 3
 }
 
-// SAFETY: the bytes end in their only NUL.
-const ACCESS_LIST: &CStr = unsafe { CStr::from_bytes_with_nul_unchecked(b"system.posix_acl_access\0") };
-const FOLDER_LIST: &CStr = unsafe { CStr::from_bytes_with_nul_unchecked(b"system.posix_acl_default\0") };
+const ACCESS_LIST: &CStr = c"system.posix_acl_access";
+const FOLDER_LIST: &CStr = c"system.posix_acl_default";
 
 /// A list of a file or folder; none where it has none or the file system knows none.
 fn list(place: &Path, name: &CStr) -> io::Result<Option<Vec<u8>>> {

@@ -55,12 +55,14 @@ impl Said {
             }
             Role::Intensities if self.says_decibels() => bad("its file says decibels; the marks are taken from intensities".into()),
             Role::Intensities | Role::Numbers => Ok(()),
-            Role::Marks if self.is_inverted => bad("0 is white in it (MINISWHITE), so what 1 means is not clear; write it as MINISBLACK".into()),
+            Role::Marks if self.is_inverted => {
+                bad("0 is white in it (MINISWHITE), so what 1 means is not clear; write it as MINISBLACK".into())
+            }
             Role::Marks => Ok(()),
             Role::Greys if self.has_palette => bad("its numbers are colours of a palette; grey of 8 or 16 bits is read".into()),
             Role::Greys if self.is_inverted => bad("0 is white in it (MINISWHITE); write it as MINISBLACK".into()),
-            Role::Greys if !matches!(kind, Kind::U8 | Kind::U16) || self.bits % 8 != 0 => {
-                let bits = if self.bits % 8 != 0 { format!("{} bits", self.bits) } else { kind.name().to_string() };
+            Role::Greys if !matches!(kind, Kind::U8 | Kind::U16) || !self.bits.is_multiple_of(8) => {
+                let bits = if !self.bits.is_multiple_of(8) { format!("{} bits", self.bits) } else { kind.name().to_string() };
                 bad(format!("elements are {bits}; grey of 8 or 16 bits (u1, u2) is read"))
             }
             Role::Greys => Ok(()),
@@ -91,7 +93,8 @@ impl Said {
         const LINEAR: [&str; 8] = ["intensity", "amplitude", "power", "linear", "magnitude", "phase", "grd", "slc"];
         let unit = Self::words(&self.unit);
         let is_plain = unit.iter().all(|word| Self::is_decibel(word) || BESIDE.contains(&word.as_str()));
-        if !self.unit.trim().is_empty() && !(is_plain && unit.iter().any(|word| Self::is_decibel(word))) {
+        let is_decibels = is_plain && unit.iter().any(|word| Self::is_decibel(word));
+        if !self.unit.trim().is_empty() && !is_decibels {
             return Some(&self.unit);
         }
         self.descriptions.iter().map(String::as_str).find(|text| {

@@ -130,7 +130,8 @@ fn open(files: &[OsString], wanted: Wanted, reading: &Reading) -> Outcome<Vec<Op
     }
     let most = if wanted == Wanted::One || names.len() == 2 { 1 } else { 2 };
     let mut opened = threads::map(names.iter().collect(), |names: &Names| {
-        let (db, marks) = threads::join(|| Source::open(&names.db, most), || names.marks.as_ref().map(|marks| Source::open(marks, most)).transpose());
+        let (db, marks) =
+            threads::join(|| Source::open(&names.db, most), || names.marks.as_ref().map(|marks| Source::open(marks, most)).transpose());
         Ok(Opened { db: db?, marks: marks? })
     })
     .into_iter()
@@ -149,7 +150,9 @@ fn open(files: &[OsString], wanted: Wanted, reading: &Reading) -> Outcome<Vec<Op
                 };
                 opened.push(Opened { db, marks });
             }
-            _ if marks.as_ref().is_some_and(|marks| marks.data_bands().len() > 1) && !names.marks.as_ref().is_some_and(Name::names_band) => {
+            _ if marks.as_ref().is_some_and(|marks| marks.data_bands().len() > 1)
+                && !names.marks.as_ref().is_some_and(Name::names_band) =>
+            {
                 let name = marks.as_ref().map_or("", |marks| marks.shown.as_str());
                 return Err(Trouble::Usage(format!("{name}: 2 bands for the marks of one; name the one, as {name}:{}", db.band())));
             }
@@ -194,7 +197,10 @@ pub fn judge_limit(source: &Source, part: Part) -> Outcome<()> {
     }
     Err(Trouble::Refused(
         1,
-        format!("{} has {} rows of {}, and neither may be above 4,096; read a part of it with --crop ROW,COL,ROWS,COLS", source.shown, part.rows, part.cols),
+        format!(
+            "{} has {} rows of {}, and neither may be above 4,096; read a part of it with --crop ROW,COL,ROWS,COLS",
+            source.shown, part.rows, part.cols
+        ),
     ))
 }
 
@@ -236,7 +242,11 @@ fn contradicted(band: &Opened, part: Part, marks: &[u8]) -> Option<String> {
     if count == 0 {
         return None;
     }
-    Some(format!("{}, band {}: {count} pixels that the marks call valid are invalid by its own nodata, mask or alpha", band.db.shown, band.db.band()))
+    Some(format!(
+        "{}, band {}: {count} pixels that the marks call valid are invalid by its own nodata, mask or alpha",
+        band.db.shown,
+        band.db.band()
+    ))
 }
 
 /// Decibels exactly as they stand, or scaled by request, with a note that says so.
@@ -260,9 +270,19 @@ pub fn decibels(source: &Source, part: Part, scaling: Option<Scaling>) -> Outcom
 
 /// Marks from a file. A number that no byte holds is refused here as the engine refuses any other that is neither 0 nor 1.
 fn read_marks(source: &Source, part: Part, is_255: bool) -> Outcome<List<u8>> {
-    let byte = |v: f64| if v >= 0.0 && v <= 255.0 && v.fract() == 0.0 { Some(v as u8) } else { None };
+    let byte = |v: f64| if (0.0..=255.0).contains(&v) && v.fract() == 0.0 { Some(v as u8) } else { None };
     let read = if is_255 {
-        source.read(part, |v| if v == 255.0 { Some(1) } else if v == 0.0 { Some(0) } else { None }).map(List::Owned)
+        source
+            .read(part, |v| {
+                if v == 255.0 {
+                    Some(1)
+                } else if v == 0.0 {
+                    Some(0)
+                } else {
+                    None
+                }
+            })
+            .map(List::Owned)
     } else {
         source.list(part, byte)
     };

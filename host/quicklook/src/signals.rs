@@ -9,8 +9,22 @@ use std::sync::atomic::{AtomicI32, Ordering::SeqCst};
 
 /// All that end a program unless it handles them, but for wrong instructions and addresses and what nobody handles.
 const ENDING: [c_int; 16] = [
-    libc::SIGHUP, libc::SIGINT, libc::SIGQUIT, libc::SIGTERM, libc::SIGXCPU, libc::SIGALRM, libc::SIGVTALRM, libc::SIGPROF, libc::SIGUSR1,
-    libc::SIGUSR2, libc::SIGIO, libc::SIGPWR, libc::SIGSTKFLT, libc::SIGABRT, libc::SIGSYS, libc::SIGTRAP,
+    libc::SIGHUP,
+    libc::SIGINT,
+    libc::SIGQUIT,
+    libc::SIGTERM,
+    libc::SIGXCPU,
+    libc::SIGALRM,
+    libc::SIGVTALRM,
+    libc::SIGPROF,
+    libc::SIGUSR1,
+    libc::SIGUSR2,
+    libc::SIGIO,
+    libc::SIGPWR,
+    libc::SIGSTKFLT,
+    libc::SIGABRT,
+    libc::SIGSYS,
+    libc::SIGTRAP,
 ];
 
 /// Where the program is; a positive number is the signal that came while outputs take their names.

@@ -1,7 +1,7 @@
 //! Rasters by name: opened, told what their files say, judged, and read exactly or refused. `.npy` files are read here, all others by
 //! GDAL's process (gdal.rs).
 
-use crate::bytes::{open_plain, Bytes, STANDARD_INPUT};
+use crate::bytes::{Bytes, STANDARD_INPUT, open_plain};
 use crate::elements::{self, Kind, Layout, Stop};
 use crate::gdal::Process;
 use crate::memory::{self, Plain};
@@ -234,7 +234,7 @@ impl Source {
         let start = head.start + part.row * self.cols * width;
         let count = part.rows * part.cols;
         if let Some(all) = bytes.in_memory() {
-            let is_aligned = (all.as_ptr() as usize + start) % std::mem::align_of::<T>() == 0;
+            let is_aligned = (all.as_ptr() as usize + start).is_multiple_of(std::mem::align_of::<T>());
             return is_aligned.then(|| Ok(List::InPlace { bytes: bytes.clone(), range: start..start + count * width }));
         }
         let read = memory::zeros(count, "a raster").map_err(Failed::Memory).and_then(|mut list: Vec<T>| {
@@ -285,7 +285,8 @@ impl Source {
         if counts.nan > 0 {
             parts.push(format!("NaN: {} invalid", counts.nan));
         }
-        let by = if parts.is_empty() { "no nodata, mask, alpha or NaN in it".to_string() } else { format!("marks by {}", parts.join(", ")) };
+        let by =
+            if parts.is_empty() { "no nodata, mask, alpha or NaN in it".to_string() } else { format!("marks by {}", parts.join(", ")) };
         let source = format!("{by}; {} of {} pixels invalid", counts.masked + counts.nan, db.len());
         Ok(OwnMarks { marks, source })
     }
@@ -314,7 +315,11 @@ pub enum Failed {
     File(String),
     Memory(Trouble),
     /// The element there, by the file's own rows and columns, has a value that cannot be taken.
-    Element { row: usize, col: usize, value: String },
+    Element {
+        row: usize,
+        col: usize,
+        value: String,
+    },
 }
 
 impl Failed {

@@ -12,7 +12,7 @@ use std::os::unix::ffi::OsStrExt;
 use std::os::unix::fs::MetadataExt;
 use std::path::{Path, PathBuf};
 use std::ptr::null_mut;
-use std::sync::atomic::{AtomicBool, AtomicPtr, AtomicU64, AtomicU8, AtomicUsize, Ordering::SeqCst};
+use std::sync::atomic::{AtomicBool, AtomicPtr, AtomicU8, AtomicU64, AtomicUsize, Ordering::SeqCst};
 
 /// A part file, or a second name of a file that has its own still: removed.
 const PART: u8 = 0;
@@ -33,16 +33,15 @@ struct Slot {
 }
 
 const MOST: usize = 256;
-static TABLE: [Slot; MOST] = {
-    const FREE: Slot = Slot {
+static TABLE: [Slot; MOST] = [const {
+    Slot {
         path: AtomicPtr::new(null_mut()),
         place: AtomicPtr::new(null_mut()),
         device: AtomicU64::new(0),
         inode: AtomicU64::new(0),
         kind: AtomicU8::new(PART),
-    };
-    [FREE; MOST]
-};
+    }
+}; MOST];
 
 /// From here on no file may be made.
 static IS_ENDING: AtomicBool = AtomicBool::new(false);
@@ -130,7 +129,7 @@ impl Fleeting {
             Some(slot) => Ok(Fleeting { path, slot }),
             None => {
                 drop(unsafe { CString::from_raw(name) });
-                Err(io::Error::new(io::ErrorKind::Other, "too many outputs at once"))
+                Err(io::Error::other("too many outputs at once"))
             }
         }
     }
@@ -153,14 +152,14 @@ impl Fleeting {
     }
 
     /// The file is from now on an earlier one, whose place the file `new` has taken. Asks for no memory.
-    pub fn is_earlier(self, place: CString, new: Id) -> Self {
+    pub fn becomes_earlier(self, place: CString, new: Id) -> Self {
         TABLE[self.slot].put(place.into_raw(), new);
         TABLE[self.slot].kind.store(EARLIER, SeqCst);
         self
     }
 
     /// The file, which is `new`, has from now on the name of an output, and none stood there before. Asks for no memory.
-    pub fn is_new(self, place: CString, new: Id) -> Self {
+    pub fn becomes_new(self, place: CString, new: Id) -> Self {
         let place = place.into_raw();
         TABLE[self.slot].put(place, new);
         TABLE[self.slot].path.store(place, SeqCst);
@@ -169,7 +168,7 @@ impl Fleeting {
     }
 
     /// The file is from now on a part file again.
-    pub fn is_part(&self) {
+    pub fn becomes_part(&self) {
         TABLE[self.slot].kind.store(PART, SeqCst);
     }
 

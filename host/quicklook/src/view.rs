@@ -5,7 +5,7 @@ use crate::commands::room;
 use crate::explain;
 use crate::gdal::Process;
 use crate::json;
-use crate::origin::{self, painted_window, Items};
+use crate::origin::{self, Items, painted_window};
 use crate::outputs;
 use crate::parts::Parts;
 use crate::progress::{note, step};
@@ -13,8 +13,8 @@ use crate::scene::{BandRasters, Scene, Wanted};
 use crate::threads;
 use crate::trouble::{Outcome, Trouble};
 use engine::{Answer, AutoscaleStrategy, PictureOut, Statistics, SyntheticRgbMode, Window};
-use flate2::write::ZlibEncoder;
 use flate2::Compression;
+use flate2::write::ZlibEncoder;
 use serde::Serialize;
 use std::io::Write;
 use std::path::Path;
@@ -34,7 +34,9 @@ struct List {
     bytes: Vec<u8>,
 }
 
-pub fn run(files: &SceneFiles, strategy: AutoscaleStrategy, mode: SyntheticRgbMode, title: Option<String>, (out, force): (&Path, bool)) -> Outcome<()> {
+pub fn run(
+    files: &SceneFiles, strategy: AutoscaleStrategy, mode: SyntheticRgbMode, title: Option<String>, (out, force): (&Path, bool),
+) -> Outcome<()> {
     if !matches!(out.extension().and_then(|e| e.to_str()), Some("html" | "htm")) {
         return Err(Trouble::Usage(format!("{}: name a page that ends in .html", out.display())));
     }
@@ -63,7 +65,7 @@ pub fn run(files: &SceneFiles, strategy: AutoscaleStrategy, mode: SyntheticRgbMo
             let mut page = PAGE;
             while let Some(at) = page.find("{{") {
                 let end = at + page[at..].find("}}").expect("a closed place in page.html");
-                file.write_all(page[..at].as_bytes()).map_err(bad)?;
+                file.write_all(&page.as_bytes()[..at]).map_err(bad)?;
                 match &page[at + 2..end] {
                     "title" => file.write_all(escaped(&title).as_bytes()).map_err(bad)?,
                     "style" => file.write_all(STYLE.as_bytes()).map_err(bad)?,
@@ -211,7 +213,10 @@ fn describe<'a>(
         crop: scene.origin.crop.map(|crop| [crop.row, crop.col]),
         bands: bands.len(),
         statistic_names: std::iter::once("valid").chain(statistics[0].named().map(|(name, _)| name)).collect(),
-        statistics: statistics.iter().map(|s| std::iter::once(s.valid_count as f64).chain(s.named().map(|(_, value)| value)).collect()).collect(),
+        statistics: statistics
+            .iter()
+            .map(|s| std::iter::once(s.valid_count as f64).chain(s.named().map(|(_, value)| value)).collect())
+            .collect(),
         windows: windows.collect(),
         histograms: statistics.iter().zip(bands).map(|(s, band)| histogram(s, band)).collect(),
         origin,

@@ -238,7 +238,13 @@ impl Georeference {
                 Ok(Gcp { id: parts.next().unwrap_or_default().to_string(), pixel, line, x, y, z })
             })
             .collect::<io::Result<_>>()?;
-        Ok(Georeference { transform, crs: crs("crs")?, gcps, gcp_crs: crs("gcp-crs")?, area_or_point: fields.get("area-or-point").map(str::to_string) })
+        Ok(Georeference {
+            transform,
+            crs: crs("crs")?,
+            gcps,
+            gcp_crs: crs("gcp-crs")?,
+            area_or_point: fields.get("area-or-point").map(str::to_string),
+        })
     }
 }
 
@@ -259,8 +265,13 @@ mod tests {
     fn a_georeference_reads_back() {
         let crs = Some(Crs { wkt: "GEOGCRS[\"a b\"]".into(), axes: vec![2, 1], epoch: 2021.3, name: "a".into() });
         let gcp = Gcp { id: "one two".into(), pixel: 0.1, line: -3.0, x: 1e300, y: f64::MIN_POSITIVE, z: -0.0 };
-        let whole =
-            Georeference { transform: Some([0.1, 10.0, -0.0, 5e6, 1e-300, -10.0]), crs: crs.clone(), gcps: vec![gcp; 3], gcp_crs: crs, area_or_point: Some("Point".into()) };
+        let whole = Georeference {
+            transform: Some([0.1, 10.0, -0.0, 5e6, 1e-300, -10.0]),
+            crs: crs.clone(),
+            gcps: vec![gcp; 3],
+            gcp_crs: crs,
+            area_or_point: Some("Point".into()),
+        };
         for georeference in [whole, Georeference::default()] {
             let mut fields = Fields::default();
             georeference.put(&mut fields);

@@ -3,7 +3,7 @@ use std::fmt::Display;
 use std::io::{self, BufRead, BufWriter, Write};
 use std::str::SplitAsciiWhitespace;
 
-use oracle::{Answer, Band, Lent, Sides, MODES, OPERATIONS, STRATEGIES};
+use oracle::{Answer, Band, Lent, MODES, OPERATIONS, STRATEGIES, Sides};
 
 /// An element of a list: numbers in decimal, floats as the hexadecimal digits of their bits.
 trait Element: Sized {

@@ -1,6 +1,6 @@
 //! The picture against its parts, the windows against the statistics, and refusals over both bands.
 use oracle::AutoscaleStrategy::{Adaptive, Clahe, Default, Equalized, Robust, Standard, Tamed};
-use oracle::{Answer, AutoscaleStrategy, Band, Lent, Picture, Sides, SyntheticRgbMode, MODES, STRATEGIES};
+use oracle::{Answer, AutoscaleStrategy, Band, Lent, MODES, Picture, STRATEGIES, Sides, SyntheticRgbMode};
 use random::Rng;
 
 /// A scene of its own for each seed: values spread around -15 dB, every tenth pixel invalid with NaN under its mark.

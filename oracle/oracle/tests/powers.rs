@@ -88,12 +88,12 @@ fn pairs() -> (Vec<u8>, Vec<u8>) {
 /// How many cells of three tables differ from what the Rust gives for all pairs.
 fn differing(rgb: &[u8], cell: impl Fn(usize, usize) -> [u8; 3]) -> [usize; 3] {
     let (mut red, mut green, mut blue) = ([false; 256], [false; 256], 0);
-    for v1 in 0..256 {
-        for v2 in 0..256 {
+    for (v1, red) in red.iter_mut().enumerate() {
+        for (v2, green) in green.iter_mut().enumerate() {
             let at = 3 * (v1 << 8 | v2);
             let expected = cell(v1, v2);
-            red[v1] |= rgb[at] != expected[0];
-            green[v2] |= rgb[at + 1] != expected[1];
+            *red |= rgb[at] != expected[0];
+            *green |= rgb[at + 1] != expected[1];
             blue += usize::from(rgb[at + 2] != expected[2]);
         }
     }

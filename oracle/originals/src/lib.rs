@@ -1,6 +1,6 @@
 //! The six files of sarpro, unchanged, in the modules that they expect. Private functions are reached by accessors that stand
 //! in the same module as the file.
-#![allow(dead_code)]
+#![allow(dead_code, clippy::all)]
 
 include!(concat!(env!("OUT_DIR"), "/types.rs"));
 
@@ -27,20 +27,7 @@ pub mod core {
             pub fn histogram_stats(db: &Array2<f64>, valid_mask: &[bool]) -> (usize, [f64; 15]) {
                 let s = compute_histogram_stats(db, valid_mask);
                 let floats = [
-                    s.min_db,
-                    s.max_db,
-                    s.mean_db,
-                    s.std_db,
-                    s.median_db,
-                    s.p01,
-                    s.p02,
-                    s.p05,
-                    s.p10,
-                    s.p25,
-                    s.p75,
-                    s.p90,
-                    s.p95,
-                    s.p98,
+                    s.min_db, s.max_db, s.mean_db, s.std_db, s.median_db, s.p01, s.p02, s.p05, s.p10, s.p25, s.p75, s.p90, s.p95, s.p98,
                     s.p99,
                 ];
                 (s.valid_count, floats)

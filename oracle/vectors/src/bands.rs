@@ -4,8 +4,8 @@ use oracle::{AutoscaleStrategy, STRATEGIES};
 use random::Rng;
 
 use crate::beside::LARGE;
-use crate::calls::{grey16, grey8, statistics, window, Scene};
-use crate::record::{strategy_code, Part};
+use crate::calls::{Scene, grey8, grey16, statistics, window};
+use crate::record::{Part, strategy_code};
 use crate::tiles;
 
 const WORK: usize = oracle::table::CLAHE_WORK;

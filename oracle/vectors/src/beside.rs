@@ -2,31 +2,14 @@
 use oracle::Sides;
 use random::Rng;
 
-use crate::calls::{every_arithmetic, marks, padding16, padding8, stretch};
+use crate::calls::{every_arithmetic, marks, padding8, padding16, stretch};
 use crate::record::Part;
 
 /// f32 of every kind: zeros, subnormals, the guard of ratio and the threshold of marks with their neighbours, large ones, infinities, NaN.
 fn singles() -> Vec<f32> {
     let positive = [
-        0x0000_0000,
-        0x0000_0001,
-        0x007F_FFFF,
-        0x0080_0000,
-        0x2EDB_E6FE,
-        0x2EDB_E6FF,
-        0x2EDB_E700,
-        0x2F5B_E6FF,
-        0x3727_C5AC,
-        0x3727_C5AD,
-        0x3DCC_CCCD,
-        0x3EAA_AAAB,
-        0x3F7F_FFFF,
-        0x3F80_0000,
-        0x3F80_0001,
-        0x4049_0FDB,
-        0x4B80_0000,
-        0x7F7F_FFFF,
-        0x7F80_0000,
+        0x0000_0000, 0x0000_0001, 0x007F_FFFF, 0x0080_0000, 0x2EDB_E6FE, 0x2EDB_E6FF, 0x2EDB_E700, 0x2F5B_E6FF, 0x3727_C5AC, 0x3727_C5AD,
+        0x3DCC_CCCD, 0x3EAA_AAAB, 0x3F7F_FFFF, 0x3F80_0000, 0x3F80_0001, 0x4049_0FDB, 0x4B80_0000, 0x7F7F_FFFF, 0x7F80_0000,
     ];
     let mut all: Vec<f32> = positive.iter().flat_map(|&bits| [bits, bits | 0x8000_0000]).map(f32::from_bits).collect();
     all.push(f32::NAN);

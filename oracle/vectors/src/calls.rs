@@ -1,5 +1,5 @@
 //! One function for each call: asks the oracle and adds the record. The op codes are these functions' first numbers.
-use oracle::{AutoscaleStrategy, Band, Lent, PolarizationOperation, Sides, SyntheticRgbMode, OPERATIONS};
+use oracle::{AutoscaleStrategy, Band, Lent, OPERATIONS, PolarizationOperation, Sides, SyntheticRgbMode};
 
 use crate::record::{Part, Record};
 

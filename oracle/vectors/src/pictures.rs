@@ -1,9 +1,9 @@
 //! Pictures: every strategy and mode, one or both bands blank, wrong lengths of each list, and every pair of refusals over both bands.
 use oracle::AutoscaleStrategy::{Clahe, Default, Standard, Tamed};
-use oracle::{AutoscaleStrategy, Lent, SyntheticRgbMode, MODES, STRATEGIES};
+use oracle::{AutoscaleStrategy, Lent, MODES, STRATEGIES, SyntheticRgbMode};
 use random::Rng;
 
-use crate::bands::{random, short, sound, usual, with_fault, BAD};
+use crate::bands::{BAD, random, short, sound, usual, with_fault};
 use crate::beside::LARGE;
 use crate::calls::{self, Scene};
 use crate::record::Part;

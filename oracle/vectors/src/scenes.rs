@@ -5,7 +5,7 @@ use std::path::Path;
 use std::{fs, io};
 
 use oracle::AutoscaleStrategy::{Adaptive, Clahe, Default, Equalized, Robust, Standard, Tamed};
-use oracle::{Answer, AutoscaleStrategy, Lent, PolarizationOperation, Sides, SyntheticRgbMode, MODES, STRATEGIES};
+use oracle::{Answer, AutoscaleStrategy, Lent, MODES, PolarizationOperation, STRATEGIES, Sides, SyntheticRgbMode};
 use random::Rng;
 
 use crate::bands::{self, random};
@@ -49,11 +49,7 @@ fn imports(declarations: &str) -> String {
     };
     let line = |module: &str, names: &[&str]| {
         let used: Vec<&str> = names.iter().filter(has).copied().collect();
-        if used.is_empty() {
-            String::new()
-        } else {
-            format!("use {module}.{{{}}}\n", used.join(", "))
-        }
+        if used.is_empty() { String::new() } else { format!("use {module}.{{{}}}\n", used.join(", ")) }
     };
     let mut text: String = NAMES.iter().map(|(module, names)| line(module, names)).collect();
     text += "use Rattle.starred.specs.Computing.{computing}\n";
@@ -89,11 +85,7 @@ fn numbers<T: Display>(xs: Vec<T>) -> Vec<String> {
 }
 
 fn mode_name(mode: SyntheticRgbMode) -> String {
-    if mode == SyntheticRgbMode::Default {
-        "Plain".to_string()
-    } else {
-        mode.to_string()
-    }
+    if mode == SyntheticRgbMode::Default { "Plain".to_string() } else { mode.to_string() }
 }
 
 /// One file of declarations.
@@ -175,7 +167,9 @@ impl File {
 
     fn whole(&self) -> String {
         let (title, uses, text) = (self.title, imports(&self.text), &self.text);
-        format!("-- {title} Written by oracle/vectors; the expected numbers are the Rust's. Closed computations: assumes nothing.\n{uses}{text}")
+        format!(
+            "-- {title} Written by oracle/vectors; the expected numbers are the Rust's. Closed computations: assumes nothing.\n{uses}{text}"
+        )
     }
 }
 

@@ -123,15 +123,15 @@ impl<'a, A> Zip<(&'a Array2<A>,)> {
     }
 
     pub fn and<B>(self, b: &'a Array2<B>) -> Zip<(&'a Array2<A>, &'a Array2<B>)> {
-        assert_eq!(self.0 .0.dim(), b.dim());
-        Zip((self.0 .0, b))
+        assert_eq!(self.0.0.dim(), b.dim());
+        Zip((self.0.0, b))
     }
 }
 
 impl<'a, A, B> Zip<(&'a Array2<A>, &'a Array2<B>)> {
     pub fn and<C>(self, c: &'a mut Array2<C>) -> Zip<(&'a Array2<A>, &'a Array2<B>, &'a mut Array2<C>)> {
-        assert_eq!(self.0 .0.dim(), c.dim());
-        Zip((self.0 .0, self.0 .1, c))
+        assert_eq!(self.0.0.dim(), c.dim());
+        Zip((self.0.0, self.0.1, c))
     }
 }
 
