@@ -333,69 +333,35 @@ pub mod codes {
     use super::{Answer, Band, PictureOut, c, call};
 
     pub fn window(strategy: u8, rows: usize, cols: usize, band: Band, blank: &mut u8, floats: &mut [f64; 4]) -> Answer<()> {
+        let Band { db, valid_mask } = band;
         call(|| unsafe {
-            c::quicklook_window(
-                strategy,
-                rows,
-                cols,
-                band.db.as_ptr(),
-                band.db.len(),
-                band.valid_mask.as_ptr(),
-                band.valid_mask.len(),
-                blank,
-                floats,
-            )
+            c::quicklook_window(strategy, rows, cols, db.as_ptr(), db.len(), valid_mask.as_ptr(), valid_mask.len(), blank, floats)
         })
     }
 
     pub fn statistics(rows: usize, cols: usize, band: Band, valid_count: &mut u64, floats: &mut [f64; 15]) -> Answer<()> {
+        let Band { db, valid_mask } = band;
         call(|| unsafe {
-            c::quicklook_statistics(
-                rows,
-                cols,
-                band.db.as_ptr(),
-                band.db.len(),
-                band.valid_mask.as_ptr(),
-                band.valid_mask.len(),
-                valid_count,
-                floats,
-            )
+            c::quicklook_statistics(rows, cols, db.as_ptr(), db.len(), valid_mask.as_ptr(), valid_mask.len(), valid_count, floats)
         })
     }
 
     pub fn grey_u8(strategy: u8, rows: usize, cols: usize, band: Band, out: &mut [u8], work: &mut [f64]) -> Answer<()> {
-        call(|| unsafe {
-            c::quicklook_grey_u8(
-                strategy,
-                rows,
-                cols,
-                band.db.as_ptr(),
-                band.db.len(),
-                band.valid_mask.as_ptr(),
-                band.valid_mask.len(),
-                out.as_mut_ptr(),
-                out.len(),
-                work.as_mut_ptr(),
-                work.len(),
-            )
-        })
+        grey(c::quicklook_grey_u8, strategy, (rows, cols), band, out, work)
     }
 
     pub fn grey_u16(strategy: u8, rows: usize, cols: usize, band: Band, out: &mut [u16], work: &mut [f64]) -> Answer<()> {
+        grey(c::quicklook_grey_u16, strategy, (rows, cols), band, out, work)
+    }
+
+    /// Either grey call.
+    type Grey<T> = unsafe extern "C" fn(u8, usize, usize, *const f64, usize, *const u8, usize, *mut T, usize, *mut f64, usize) -> u8;
+
+    fn grey<T>(grey: Grey<T>, strategy: u8, sides: (usize, usize), band: Band, out: &mut [T], work: &mut [f64]) -> Answer<()> {
+        let (Band { db, valid_mask }, (rows, cols)) = (band, sides);
+        let (out, out_len, work, work_len) = (out.as_mut_ptr(), out.len(), work.as_mut_ptr(), work.len());
         call(|| unsafe {
-            c::quicklook_grey_u16(
-                strategy,
-                rows,
-                cols,
-                band.db.as_ptr(),
-                band.db.len(),
-                band.valid_mask.as_ptr(),
-                band.valid_mask.len(),
-                out.as_mut_ptr(),
-                out.len(),
-                work.as_mut_ptr(),
-                work.len(),
-            )
+            grey(strategy, rows, cols, db.as_ptr(), db.len(), valid_mask.as_ptr(), valid_mask.len(), out, out_len, work, work_len)
         })
     }
 

@@ -101,10 +101,8 @@ pub enum Command {
     Picture {
         #[command(flatten)]
         scene: SceneFiles,
-        #[arg(long, value_enum, default_value = "default")]
-        strategy: Strategy,
-        #[arg(long, value_enum, default_value = "default")]
-        mode: Mode,
+        #[command(flatten)]
+        painting: Painting,
         /// Where the colours go
         #[arg(long)]
         out: PathBuf,
@@ -123,10 +121,8 @@ pub enum Command {
         band2: OsString,
         #[command(flatten)]
         part: PartOf,
-        #[arg(long, value_enum, default_value = "default")]
-        strategy: Strategy,
-        #[arg(long, value_enum, default_value = "default")]
-        mode: Mode,
+        #[command(flatten)]
+        painting: Painting,
         #[arg(long)]
         out: PathBuf,
         #[command(flatten)]
@@ -169,10 +165,8 @@ pub enum Command {
     View {
         #[command(flatten)]
         scene: SceneFiles,
-        #[arg(long, value_enum, default_value = "default")]
-        strategy: Strategy,
-        #[arg(long, value_enum, default_value = "default")]
-        mode: Mode,
+        #[command(flatten)]
+        painting: Painting,
         /// The page's title; by default the names of the decibel files
         #[arg(long)]
         title: Option<String>,
@@ -223,6 +217,15 @@ pub struct SceneFiles {
     pub files: Vec<OsString>,
     #[command(flatten)]
     pub reading: Reading,
+}
+
+/// How a picture is painted.
+#[derive(Args, Clone, Copy)]
+pub struct Painting {
+    #[arg(long, value_enum, default_value = "default")]
+    pub strategy: Strategy,
+    #[arg(long, value_enum, default_value = "default")]
+    pub mode: Mode,
 }
 
 /// The part of a raster that is read, and how.

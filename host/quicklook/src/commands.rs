@@ -1,6 +1,6 @@
 //! The commands: read, lend, write.
 
-use crate::arguments::{BandFiles, Bits, Command, Form, Marks, PartOf, Reading, SceneFiles};
+use crate::arguments::{BandFiles, Bits, Command, Form, Marks, Painting, PartOf, Reading, SceneFiles};
 use crate::demo;
 use crate::elements::Kind;
 use crate::explain;
@@ -35,16 +35,18 @@ pub fn run(command: Command) -> Outcome<()> {
         Command::Stats { band, json } => stats(&band, json),
         Command::Window { band, strategy, json } => window(&band, strategy.into(), json),
         Command::Grey { band, strategy, depth, out, form } => grey(&band, strategy.into(), depth, &out, form),
-        Command::Picture { scene, strategy, mode, out, grey1, grey2, form } => {
+        Command::Picture { scene, painting: Painting { strategy, mode }, out, grey1, grey2, form } => {
             picture(&scene, strategy.into(), mode.into(), [Some(out), grey1, grey2], form)
         }
-        Command::Compose { band1, band2, part, strategy, mode, out, form } => {
+        Command::Compose { band1, band2, part, painting: Painting { strategy, mode }, out, form } => {
             compose([&band1, &band2], part, strategy.into(), mode.into(), &out, form)
         }
         Command::Stretch { grey, part, out, form } => stretch(&grey, part, &out, form),
         Command::Pad { grey, part, out, form } => pad(&grey, part, &out, form),
         Command::Op { operation, a, b, part, out, form } => operate(operation.into(), [&a, &b], part, &out, form),
-        Command::View { scene, strategy, mode, title, out, force } => view::run(&scene, strategy.into(), mode.into(), title, (&out, force)),
+        Command::View { scene, painting: Painting { strategy, mode }, title, out, force } => {
+            view::run(&scene, strategy.into(), mode.into(), title, (&out, force))
+        }
         Command::Demo { folder, side, force } => demo::run(&folder, side, force),
     }
 }
