@@ -80,11 +80,11 @@ class Case(unittest.TestCase):
         settings.update(more)
         return subprocess.run([PROGRAM, *map(str, words)], **settings)
 
-    def slowly(self, words, fault, seconds=8, **more):
-        """A run whose call `fault` takes its time, when it has come to it."""
+    def slowly(self, words, fault, seconds=8, path="", **more):
+        """A run whose call `fault` takes its time, when it has come to it; of opens only those of paths that end with `path`."""
         mark = pathlib.Path(tempfile.mkdtemp()) / "mark"
         self.addCleanup(shutil.rmtree, mark.parent, ignore_errors=True)
-        environment = dict(os.environ, LD_PRELOAD=shim(), FAULT=f"{fault}:0", FAULT_WAIT=str(seconds), FAULT_MARK=str(mark))
+        environment = dict(os.environ, LD_PRELOAD=shim(), FAULT=f"{fault}:0", FAULT_WAIT=str(seconds), FAULT_MARK=str(mark), FAULT_PATH=path)
         process = subprocess.Popen([PROGRAM, *words], cwd=self.folder, stdin=subprocess.DEVNULL, stdout=subprocess.DEVNULL, stderr=subprocess.PIPE, env=environment, **more)
         end = time.monotonic() + 60
         while not mark.exists() and process.poll() is None and time.monotonic() < end:

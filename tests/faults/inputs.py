@@ -120,7 +120,7 @@ class Inputs(Case):
         for how in (lambda: None, lambda: signal.pthread_sigmask(signal.SIG_BLOCK, [signal.SIGBUS])):
             seen = 0
             for _ in range(12):
-                process = self.slowly(["grey", "db1.npy", "marks1.npy", "--out", "o.npy", "--map"], "open:6*", 0.1, preexec_fn=how)
+                process = self.slowly(["grey", "db1.npy", "marks1.npy", "--out", "o.npy", "--map"], "open:1", 0.1, "marks1.npy", preexec_fn=how)
                 os.truncate(self.folder / "db1.npy", 5000)
                 status, told = self.ends(process)
                 self.assertEqual(status, 74, told)

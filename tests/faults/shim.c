@@ -2,6 +2,7 @@
  *   FAULT=FUNCTION:N:ERRNO   the Nth call of a C function fails; with N* that one and all after it; several with commas. With
  *                            FAULT_KILL=1 it ends the program as kill -9 does, with FAULT_WAIT=SECONDS it takes its time and does not fail;
  *                            the file FAULT_MARK is made when it begins to; with FAULT_NO_MEMORY=1 it is done, and from there on there is no memory
+ *   FAULT_PATH=END           only opens of paths that end so count
  *   FAULT_COUNTS=FILE        how often each function was called
  *   FAULT_RANDOM=1           random numbers are all 0
  *   FAULT_FLOAT=up|flush|trap   every thread begins in another floating-point environment */
@@ -87,8 +88,15 @@ static int is_due(enum call call)
 #define REAL(name) ((__typeof__(&name))dlsym(RTLD_NEXT, #name))
 #define MODE(flags) mode_t mode = 0; if ((flags) & (O_CREAT | O_TMPFILE)) { va_list list; va_start(list, flags); mode = va_arg(list, mode_t); va_end(list); }
 
-int open(const char *path, int flags, ...) { MODE(flags) return is_due(OPEN) ? -1 : REAL(open)(path, flags, mode); }
-int open64(const char *path, int flags, ...) { MODE(flags) return is_due(OPEN) ? -1 : REAL(open64)(path, flags, mode); }
+static int is_open_due(const char *path)
+{
+    const char *end = getenv("FAULT_PATH");
+    size_t n = end ? strlen(end) : 0, len = strlen(path);
+    return (!end || (len >= n && !strcmp(path + len - n, end))) && is_due(OPEN);
+}
+
+int open(const char *path, int flags, ...) { MODE(flags) return is_open_due(path) ? -1 : REAL(open)(path, flags, mode); }
+int open64(const char *path, int flags, ...) { MODE(flags) return is_open_due(path) ? -1 : REAL(open64)(path, flags, mode); }
 ssize_t write(int file, const void *bytes, size_t len) { return is_due(WRITE) ? -1 : REAL(write)(file, bytes, len); }
 ssize_t read(int file, void *bytes, size_t len) { return is_due(READ) ? -1 : REAL(read)(file, bytes, len); }
 ssize_t pread64(int file, void *bytes, size_t len, off64_t from) { return is_due(PREAD) ? -1 : REAL(pread64)(file, bytes, len, from); }

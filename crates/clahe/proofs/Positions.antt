@@ -55,9 +55,9 @@ column-among cols c fs ws e = subst (λ (x : Column). x .first < 8) (sym e) (amo
 
 -- ---- a sample
 
-pub sampled-from : (work : List Float) (y : TilePosition) (x : Column) (b next : ℕ) (top bottom r : Float) → next ≡ nextTile (x .first)
-    → top ≡ blend (x .weight) (sumIn work (y .first) (x .first) b) (sumIn work (y .first) next b)
-    → bottom ≡ blend (x .weight) (sumIn work (y .second) (x .first) b) (sumIn work (y .second) next b)
+pub sampled-from : (work : List Float) (y : TilePosition) (x : Column) (b next : ℕ) (p q top s t bottom r : Float) → next ≡ nextTile (x .first)
+    → p ≡ sumIn work (y .first) (x .first) b → q ≡ sumIn work (y .first) next b → top ≡ blend (x .weight) p q
+    → s ≡ sumIn work (y .second) (x .first) b → t ≡ sumIn work (y .second) next b → bottom ≡ blend (x .weight) s t
     → r ≡ blend (y .weight) top bottom → r ≡ sampled work y x b
 unfolding sampled
-sampled-from work y x b next top bottom r n p q e = cc
+sampled-from work y x b next p q top s t bottom r n e f g h k l m = cc

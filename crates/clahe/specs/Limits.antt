@@ -1,4 +1,4 @@
--- What a tile's counts are clipped at. Definitions and statements only.
+-- What a tile's counts are clipped at, and what is left to share. Definitions and statements only.
 use Prim.Native.Nat.{ℕ, _*_, _/_, _%_, _^_, _≤_}
 use mathlib.Core.Path.{_≡_}
 use mathlib.Core.List.{List}

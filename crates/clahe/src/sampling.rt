@@ -3,7 +3,7 @@ ghost use mathlib.Core.Path.{_≡_};
 ghost use Prim.Native.Nat.{_≤_, _<_};
 ghost use lib.ListN.{length};
 ghost use lib.Ieee.{binary64, sub};
-ghost use Rattle.clahe.specs.Work.{Among, sampled};
+ghost use Rattle.clahe.specs.Work.{Among, sumIn, sampled};
 ghost use Rattle.spec.specs.Clahe as Clahe;
 use super::columns::Column;
 use super::columns::next_tile;
@@ -40,24 +40,29 @@ fn blend(weight: f64, a: f64, b: f64) -> f64
     a * (1.0 - weight) + b * weight
 }
 
+// The sum at bin b of the tile in row ty and column tx of tiles.
+fn sum_in(work: &[f64], ty: usize, tx: usize, b: usize) -> f64
+    requires { ⌜ (length (now work) ≡ 16384) × (ty < 8) × (tx < 8) × (b < 256) ⌝ }
+    ensures { λ r. ⌜ r ≡ sumIn (now (work .entry)) ty tx b ⌝ }
+{
+    work[(ty * 8 + tx) * 256 + b]
+}
+
 // The sum at bin b, from the four tiles around.
 pub fn sample(work: &[f64], y: TilePosition, x: Column, b: usize) -> f64
     requires { ⌜ (length (now work) ≡ 16384) × Among y × (x .first < 8) × (b < 256) ⌝ }
     ensures { λ r. ⌜ r ≡ sampled (now (work .entry)) y x b ⌝ }
 {
-    let top = y.first * 8;
-    let bottom = y.second * 8;
-    let left = x.first;
-    let right = next_tile(x.first);
-    let a = blend(
+    let next = next_tile(x.first);
+    let top = blend(
         x.weight,
-        work[(top + left) * 256 + b],
-        work[(top + right) * 256 + b],
+        sum_in(work, y.first, x.first, b),
+        sum_in(work, y.first, next, b),
     );
-    let z = blend(
+    let bottom = blend(
         x.weight,
-        work[(bottom + left) * 256 + b],
-        work[(bottom + right) * 256 + b],
+        sum_in(work, y.second, x.first, b),
+        sum_in(work, y.second, next, b),
     );
-    blend(y.weight, a, z)
+    blend(y.weight, top, bottom)
 }

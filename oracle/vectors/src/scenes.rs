@@ -25,16 +25,16 @@ const NAMES: [(&str, &[&str]); 16] = [
     ),
     ("Rattle.types.specs.declared.SyntheticRgbMode.the-variants", &["Default as Plain", "RgbRatio", "SarUrban", "Enhanced"]),
     ("Rattle.spec.specs.Pixels", &["pixels"]),
-    ("Rattle.spec.specs.Statistics", &["statisticsOf", "statisticsCall"]),
-    ("Rattle.spec.specs.Window", &["windowCall"]),
-    ("Rattle.spec.specs.Grey", &["grey8", "grey16"]),
-    ("Rattle.spec.specs.Stretch", &["stretchCall"]),
-    ("Rattle.spec.specs.Colour", &["composition"]),
+    ("Rattle.spec.specs.Statistics", &["statisticsOf", "computeHistogramStats"]),
+    ("Rattle.spec.specs.Window", &["autoscaleWindow"]),
+    ("Rattle.spec.specs.Grey", &["autoscaleDbImageToU8", "autoscaleDbImageToU16"]),
+    ("Rattle.spec.specs.Stretch", &["scaleU16ToU8"]),
+    ("Rattle.spec.specs.Colour", &["createSyntheticRgbByModeAndStrategy"]),
     ("Rattle.spec.specs.Clahe", &["clip", "sumAt"]),
-    ("Rattle.spec.specs.Padding", &["paddingCall"]),
-    ("Rattle.spec.specs.Marks", &["marksCall"]),
-    ("Rattle.spec.specs.Ops", &["opCall", "sumOp", "differenceOp", "ratioOp", "logRatioOp", "normalisedOp"]),
-    ("Rattle.spec.specs.Picture", &["pictureOf"]),
+    ("Rattle.spec.specs.Padding", &["addPaddingToSquare"]),
+    ("Rattle.spec.specs.Marks", &["processScalarDataMask"]),
+    ("Rattle.spec.specs.Ops", &["operateArrays", "sumOp", "differenceOp", "ratioOp", "logRatioOp", "normalizedDiffOp"]),
+    ("Rattle.spec.specs.Picture", &["syntheticRgbPicture"]),
 ];
 
 const TESTS: &[&str] = &["same", "floats", "floats32", "statAnswer", "windowBits", "allWindows", "bytes", "words", "pictureBytes", "lent"];
@@ -122,13 +122,13 @@ impl File {
     fn statistics(&mut self, scene: &Scene) {
         let expected =
             answer(oracle::statistics(scene.sides, scene.band()), |s| [vec![s.valid_count.to_string()], bits(&s.floats)].concat());
-        self.check("statistics", format!("statAnswer (statisticsCall {})", Self::sided(scene)), expected);
+        self.check("statistics", format!("statAnswer (computeHistogramStats {})", Self::sided(scene)), expected);
     }
 
     fn window(&mut self, strategy: AutoscaleStrategy, scene: &Scene) {
         let given = oracle::window(strategy, scene.sides, scene.band());
         let expected = answer(given, |w| w.map_or(Vec::new(), |w| bits(&[w.low, w.high, w.range, w.gamma])));
-        self.check("window", format!("windowBits (windowCall {strategy} {})", Self::sided(scene)), expected);
+        self.check("window", format!("windowBits (autoscaleWindow {strategy} {})", Self::sided(scene)), expected);
     }
 
     /// All seven from one record.
@@ -144,12 +144,12 @@ impl File {
 
     fn grey8(&mut self, strategy: AutoscaleStrategy, scene: &Scene, out: usize, work: usize) {
         let expected = answer(oracle::grey_u8(strategy, scene.sides, scene.band(), out, work), numbers);
-        self.check("grey8", format!("bytes (grey8 {strategy} {} {out} {work})", Self::sided(scene)), expected);
+        self.check("grey8", format!("bytes (autoscaleDbImageToU8 {strategy} {} {out} {work})", Self::sided(scene)), expected);
     }
 
     fn grey16(&mut self, strategy: AutoscaleStrategy, scene: &Scene, out: usize, work: usize) {
         let expected = answer(oracle::grey_u16(strategy, scene.sides, scene.band(), out, work), numbers);
-        self.check("grey16", format!("bytes (grey16 {strategy} {} {out} {work})", Self::sided(scene)), expected);
+        self.check("grey16", format!("bytes (autoscaleDbImageToU16 {strategy} {} {out} {work})", Self::sided(scene)), expected);
     }
 
     fn picture(&mut self, strategy: AutoscaleStrategy, mode: SyntheticRgbMode, band1: &Scene, band2: &Scene, lent: Lent) {
@@ -157,7 +157,7 @@ impl File {
         let expected = answer(given, |p| numbers([p.grey1, p.grey2, p.rgb].concat()));
         let Lent { grey1, grey2, rgb, work } = lent;
         let got = format!(
-            "pictureBytes (pictureOf {strategy} {} {} {} (lent {grey1} {grey2} {rgb} {work}))",
+            "pictureBytes (syntheticRgbPicture {strategy} {} {} {} (lent {grey1} {grey2} {rgb} {work}))",
             mode_name(mode),
             Self::sided(band1),
             Self::band(band2)
@@ -289,18 +289,18 @@ fn beside() -> File {
     let mut f = File::new("Beside", "Stretch, colours, padding, arithmetic, marks.");
     for data in [&[0u16, 65535, 1, 257, 32768][..], &[3, 9, 5, 200, 77, 31], &[7, 7], &[]] {
         let expected = answer(oracle::stretch(data, data.len()), numbers);
-        f.check("stretch", format!("bytes (stretchCall {} {})", list(data), data.len()), expected);
+        f.check("stretch", format!("bytes (scaleU16ToU8 {} {})", list(data), data.len()), expected);
     }
     let (v1, v2) = ([0u8, 3, 4, 40, 41, 90, 200, 255], [255u8, 3, 9, 12, 0, 177, 41, 128]);
     for strategy in [Default, Clahe] {
         let expected = answer(oracle::composition(SyntheticRgbMode::Enhanced, strategy, &v1, &v2, 24), numbers);
-        f.check("composition", format!("bytes (composition Enhanced {strategy} {} {} 24)", list(v1), list(v2)), expected);
+        f.check("composition", format!("bytes (createSyntheticRgbByModeAndStrategy Enhanced {strategy} {} {} 24)", list(v1), list(v2)), expected);
     }
     for (rows, cols) in [(2usize, 5usize), (4, 1)] {
         let data: Vec<u16> = (1..=rows * cols).map(|k| 1000 * k as u16).collect();
         let side = rows.max(cols);
         let expected = answer(oracle::padding_u16(Sides { rows, cols }, &data, side * side), numbers);
-        f.check("padding", format!("bytes (paddingCall {rows} {cols} {} {})", list(&data), side * side), expected);
+        f.check("padding", format!("bytes (addPaddingToSquare {rows} {cols} {} {})", list(&data), side * side), expected);
     }
     let a = [0x3f800000u32, 0x40490fdb, 0x7f800000, 0x7fc00000, 1, 0x3dcccccd, 0xc2f6e979, 0x80000000].map(f32::from_bits);
     let b = [0x3eaaaaabu32, 0x2edbe6ff, 0x7f800000, 0x3f800000, 0x80000001, 0x2edbe700, 0x42f6e979, 0].map(f32::from_bits);
@@ -309,15 +309,15 @@ fn beside() -> File {
         (PolarizationOperation::Diff, "differenceOp"),
         (PolarizationOperation::Ratio, "ratioOp"),
         (PolarizationOperation::LogRatio, "logRatioOp"),
-        (PolarizationOperation::NDiff, "normalisedOp"),
+        (PolarizationOperation::NDiff, "normalizedDiffOp"),
     ] {
         let expected = answer(oracle::arithmetic(operation, &a, &b, 8), |xs| bits32(&xs));
-        let got = format!("words (opCall {name} (floats32 {}) (floats32 {}) 8)", list(bits32(&a)), list(bits32(&b)));
+        let got = format!("words (operateArrays {name} (floats32 {}) (floats32 {}) 8)", list(bits32(&a)), list(bits32(&b)));
         f.check("arithmetic", got, expected);
     }
     let x = [0x3727c5acu32, 0x3727c5ad, 0x7f800000, 0x7fc00000, 0xff800000, 0, 0xbf800000, 0x3f800000].map(f32::from_bits);
     let expected = answer(oracle::marks(&x, 8), numbers);
-    f.check("marks", format!("bytes (marksCall (floats32 {}) 8)", list(bits32(&x))), expected);
+    f.check("marks", format!("bytes (processScalarDataMask (floats32 {}) 8)", list(bits32(&x))), expected);
     f
 }
 
