@@ -145,7 +145,11 @@ fn tamed_clip(is_copol: bool, stats: HistogramStats) -> Clip
 }
 
 // What a strategy decides for a picture.
-pub(crate) fn picture_clip(strategy: AutoscaleStrategy, is_copol: bool, stats: HistogramStats) -> Clip
+pub(crate) fn picture_clip(
+    strategy: AutoscaleStrategy,
+    is_copol: bool,
+    stats: HistogramStats,
+) -> Clip
     ensures { λ r. ⌜ r ≡ Window.pictureClip strategy «is_copol» stats ⌝ }
 {
     if let AutoscaleStrategy::Tamed = strategy {

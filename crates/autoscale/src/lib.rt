@@ -103,14 +103,29 @@ pub fn plain_greys_u8(db: &[f64], valid_mask: &[u8], window: WindowAnswer, out: 
         lists::clear_u8(out);
         return;
     };
-    let ends = paint::paint_u8(db, valid_mask, WindowFloats { low, high, range, gamma }, out);
+    let ends = paint::paint_u8(
+        db,
+        valid_mask,
+        WindowFloats {
+            low,
+            high,
+            range,
+            gamma,
+        },
+        out,
+    );
     let lo = ends.lo;
     let hi = ends.hi;
     stretch::stretch_bytes(out, lo, hi);
 }
 
 // The values of a band at 8 bits from its window, not stretched, as the Tamed picture path has it.
-pub fn autoscale_db_image_tamed_synrgb_u8(db: &[f64], valid_mask: &[u8], window: WindowAnswer, out: &mut [u8])
+pub fn autoscale_db_image_tamed_synrgb_u8(
+    db: &[f64],
+    valid_mask: &[u8],
+    window: WindowAnswer,
+    out: &mut [u8],
+)
     requires { ⌜ length (now db) ≡ length (now out) ⌝ ∗ ⌜ length (now «valid_mask») ≡ length (now out) ⌝ ∗ ⌜ opens window ≡ true ⌝ }
     ensures { λ _. ⌜ now (out .exit) ≡ plainValues full8 (pixels (now («valid_mask» .entry)) (now (db .entry))) window ⌝ }
 {
@@ -124,7 +139,17 @@ pub fn autoscale_db_image_tamed_synrgb_u8(db: &[f64], valid_mask: &[u8], window:
         lists::clear_u8(out);
         return;
     };
-    paint::paint_u8(db, valid_mask, WindowFloats { low, high, range, gamma }, out);
+    paint::paint_u8(
+        db,
+        valid_mask,
+        WindowFloats {
+            low,
+            high,
+            range,
+            gamma,
+        },
+        out,
+    );
 }
 
 // The values of a band at 16 bits from its window, outside Clahe.
@@ -142,5 +167,15 @@ pub fn plain_values_u16(db: &[f64], valid_mask: &[u8], window: WindowAnswer, out
         lists::clear_u16(out);
         return;
     };
-    paint::paint_u16(db, valid_mask, WindowFloats { low, high, range, gamma }, out);
+    paint::paint_u16(
+        db,
+        valid_mask,
+        WindowFloats {
+            low,
+            high,
+            range,
+            gamma,
+        },
+        out,
+    );
 }

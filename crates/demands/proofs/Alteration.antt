@@ -27,5 +27,5 @@ alteration =
       at-8-bits = λ strategy rows cols m d d′ out work a. cc (same-pixels m d d′ a, same-named rows cols m d d′ a);
       at-16-bits = λ strategy rows cols m d d′ out work a. cc (same-pixels m d d′ a, same-named rows cols m d d′ a);
       picture = λ strategy mode rows cols m1 d1 d1′ m2 d2 d2′ lent a b.
-        cc (same-pixels m1 d1 d1′ a, same-pixels m2 d2 d2′ b, same-named rows cols m1 d1 d1′ a, same-named rows cols m2 d2 d2′ b)
+          cc (same-pixels m1 d1 d1′ a, same-pixels m2 d2 d2′ b, same-named rows cols m1 d1 d1′ a, same-named rows cols m2 d2 d2′ b);
     }

@@ -63,8 +63,9 @@ module _ (before : Float → Float → Bool) (upTo : Float → Float → Type 0)
       number : (t : Bool) → Number (cond t v m)
       number true = h .0
       number false = n
+
       which : (t : Bool) → before v m ≡ t → upTo (kept (cond t v m) vs) (cond t v m) × Each (upTo (kept (cond t v m) vs)) vs →
-        upTo (kept (cond t v m) vs) m × Each (upTo (kept (cond t v m) vs)) (v ∷ vs)
+          upTo (kept (cond t v m) vs) m × Each (upTo (kept (cond t v m) vs)) (v ∷ vs)
       which true e ih = (chain _ _ _ (ih .0) (taken v m e), (ih .0, ih .1))
       which false e ih = (ih .0, (chain _ _ _ (ih .0) (left v m (h .0) n e), ih .1))
 

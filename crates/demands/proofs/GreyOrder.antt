@@ -139,8 +139,8 @@ module _ (strategy : AutoscaleStrategy) (n : isClahe strategy ≡ false) (rows c
     where
       top : highest 0 (raw full8) ≤ 65535
       top =
-        subst (λ (xs : List ℕ). highest 0 xs ≤ 65535) (sym (values-map full8 strategy n rows cols (pixels m d) (given blank c)))
-        (let b = highest-map (painter full8 (given blank c)) 255 (painter-255 (given blank c)) 0 zero-le (pixels m d) in omega (arith, b))
+          subst (λ (xs : List ℕ). highest 0 xs ≤ 65535) (sym (values-map full8 strategy n rows cols (pixels m d) (given blank c)))
+          (let b = highest-map (painter full8 (given blank c)) 255 (painter-255 (given blank c)) 0 zero-le (pixels m d) in omega (arith, b))
 
   greys-ranked : Ranked m d (pictureGreys strategy rows cols (pixels m d) (given blank c))
   unfolding pictureGreys raw
@@ -181,7 +181,7 @@ module _ (strategy : AutoscaleStrategy) (n : isClahe strategy ≡ false) (mode :
   picture-accepted w1 w2 e =
       let h = none-holds 0 _ e in
       let named = or-false (lengthsRefused rows cols m1 d1 || lengthsRefused rows cols m2 d2) (unlike (lent .grey1) (rows * cols))
-        (or-false _ (unlike (lent .grey2) (rows * cols)) (or-false _ (unlike (lent .rgb) (3 * (rows * cols))) (or-false _ (workRefused strategy (lent .work)) (h .1 .0) .0) .0) .0) .0 in
+      (or-false _ (unlike (lent .grey2) (rows * cols)) (or-false _ (unlike (lent .rgb) (3 * (rows * cols))) (or-false _ (workRefused strategy (lent .work)) (h .1 .0) .0) .0) .0) .0 in
       let names = or-false (lengthsRefused rows cols m1 d1) (lengthsRefused rows cols m2 d2) named in
       let good = or-false (decibelsRefused (pixels m1 d1)) (decibelsRefused (pixels m2 d2)) (h .1 .1 .1 .0) in
       (named-lengths rows cols m1 d1 (names .0), good .0, named-lengths rows cols m2 d2 (names .1), good .1)
@@ -192,16 +192,17 @@ module _ (strategy : AutoscaleStrategy) (n : isClahe strategy ≡ false) (mode :
       let h = done-answer _ _ _ e in
       let a = picture-accepted _ _ (h .0) in
       let s1 = statisticsOf (pixels m1 d1) in
-      let s2 = statisticsOf (pixels m2 d2) in
-      (subst (Ranked m1 d1) (ap (λ (q : Picture). q .grey1) (h .1))
-        (greys-ranked strategy n rows cols m1 d1 (a .0) (a .1) (eqb (s1 .«valid_count») 0) (cond (isTamed strategy) (tamedClip true s1) (chooseClip strategy s1))),
-      subst (Ranked m2 d2) (ap (λ (q : Picture). q .grey2) (h .1))
-        (greys-ranked strategy n rows cols m2 d2 (a .2) (a .3) (eqb (s2 .«valid_count») 0) (cond (isTamed strategy) (tamedClip false s2) (chooseClip strategy s2))))
+      let s2 = statisticsOf (pixels m2 d2) in (
+        subst (Ranked m1 d1) (ap (λ (q : Picture). q .grey1) (h .1))
+            (greys-ranked strategy n rows cols m1 d1 (a .0) (a .1) (eqb (s1 .«valid_count») 0) (cond (isTamed strategy) (tamedClip true s1) (chooseClip strategy s1))),
+        subst (Ranked m2 d2) (ap (λ (q : Picture). q .grey2) (h .1))
+            (greys-ranked strategy n rows cols m2 d2 (a .2) (a .3) (eqb (s2 .«valid_count») 0) (cond (isTamed strategy) (tamedClip false s2) (chooseClip strategy s2))),
+      )
 
 pub grey-order : GreyOrder
 grey-order =
     record {
       at-8-bits = λ strategy n rows cols m d out work. autoscaleDbImageToU8-ranked strategy (not-clahe strategy n) rows cols m d out work;
       at-16-bits = λ strategy n rows cols m d out work. autoscaleDbImageToU16-ranked strategy (not-clahe strategy n) rows cols m d out work;
-      picture = λ strategy n mode rows cols m1 d1 m2 d2 lent. picture-ranked strategy (not-clahe strategy n) mode rows cols m1 d1 m2 d2 lent
+      picture = λ strategy n mode rows cols m1 d1 m2 d2 lent. picture-ranked strategy (not-clahe strategy n) mode rows cols m1 d1 m2 d2 lent;
     }

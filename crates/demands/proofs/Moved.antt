@@ -128,11 +128,11 @@ module _ (ps : List ℕ) (n : ℕ) (o : Order ps n) where
   unfolding coloursOf
   colours-moved strategy a b e g =
       ap (λ (f : ℕ). cond (isSuppressed strategy) (zipWith (suppressed f) (moved 0 ps a) (moved 0 ps b)) (zipWith plain (moved 0 ps a) (moved 0 ps b)))
-        (floor-perm (moved-perm 0 ps a (order-of a e)) (moved-perm 0 ps b (order-of b g)))
+      (floor-perm (moved-perm 0 ps a (order-of a e)) (moved-perm 0 ps b (order-of b g)))
       ∙ pick (isSuppressed strategy)
     where
       pick : (t : Bool) → cond t (zipWith (suppressed (floorLevel a b)) (moved 0 ps a) (moved 0 ps b)) (zipWith plain (moved 0 ps a) (moved 0 ps b))
-        ≡ moved dark ps (cond t (zipWith (suppressed (floorLevel a b)) a b) (zipWith plain a b))
+          ≡ moved dark ps (cond t (zipWith (suppressed (floorLevel a b)) a b) (zipWith plain a b))
       pick true = zip-colours (suppressed (floorLevel a b)) a b e g
       pick false = zip-colours plain a b e g
 
@@ -201,14 +201,22 @@ module _ (ps : List ℕ) (n : ℕ) (o : Order ps n) (strategy : AutoscaleStrateg
 
     tests-moved :
         pictureTests strategy rows cols (moved 0 ps m1) (moved nan ps d1) (moved 0 ps m2) (moved nan ps d2) lent (moved off ps (pixels m1 d1)) (moved off ps (pixels m2 d2))
-          (win strategy true (moved off ps (pixels m1 d1))) (win strategy false (moved off ps (pixels m2 d2)))
+        (win strategy true (moved off ps (pixels m1 d1))) (win strategy false (moved off ps (pixels m2 d2)))
         ≡ pictureTests strategy rows cols m1 d1 m2 d2 lent (pixels m1 d1) (pixels m2 d2) (win strategy true (pixels m1 d1)) (win strategy false (pixels m2 d2))
     unfolding pictureTests
     tests-moved =
-        cc (named-moved ps n o rows cols m1 d1 em1 ed1, named-moved ps n o rows cols m2 d2 em2 ed2, mark-moved ps n o m1 em1, mark-moved ps n o m2 em2,
-          decibel-moved ps n o (pixels m1 d1) (pixels-size ps n o m1 d1 em1 ed1), decibel-moved ps n o (pixels m2 d2) (pixels-size ps n o m2 d2 em2 ed2),
+        cc (
+          named-moved ps n o rows cols m1 d1 em1 ed1,
+          named-moved ps n o rows cols m2 d2 em2 ed2,
+          mark-moved ps n o m1 em1,
+          mark-moved ps n o m2 em2,
+          decibel-moved ps n o (pixels m1 d1) (pixels-size ps n o m1 d1 em1 ed1),
+          decibel-moved ps n o (pixels m2 d2) (pixels-size ps n o m2 d2 em2 ed2),
           tiles-moved ps n o strategy rows cols (pixels m1 d1) (pixels-size ps n o m1 d1 em1 ed1),
-          tiles-moved ps n o strategy rows cols (pixels m2 d2) (pixels-size ps n o m2 d2 em2 ed2), s1 .gamma, s2 .gamma)
+          tiles-moved ps n o strategy rows cols (pixels m2 d2) (pixels-size ps n o m2 d2 em2 ed2),
+          s1 .gamma,
+          s2 .gamma,
+        )
 
     steady-picture :
         syntheticRgbPicture strategy mode rows cols (moved 0 ps m1) (moved nan ps d1) (moved 0 ps m2) (moved nan ps d2) lent
@@ -217,9 +225,9 @@ module _ (ps : List ℕ) (n : ℕ) (o : Order ps n) (strategy : AutoscaleStrateg
     steady-picture =
         rw (moved-pixels ps n o m1 d1 em1 ed1, moved-pixels ps n o m2 d2 em2 ed2, tests-moved)
         (answer-moved ps n o _ _ _ (greys-of true m1 d1 em1 ed1 s1) (greys-of false m2 d2 em2 ed2 s2)
-          (ap₂ (coloursOf strategy) (greys-of true m1 d1 em1 ed1 s1) (greys-of false m2 d2 em2 ed2 s2)
-          ∙ colours-moved ps n o strategy _ _ (greys-size ps n o strategy c rows cols (pixels m1 d1) _ ∙ pixels-size ps n o m1 d1 em1 ed1)
-            (greys-size ps n o strategy c rows cols (pixels m2 d2) _ ∙ pixels-size ps n o m2 d2 em2 ed2)))
+        (ap₂ (coloursOf strategy) (greys-of true m1 d1 em1 ed1 s1) (greys-of false m2 d2 em2 ed2 s2)
+        ∙ colours-moved ps n o strategy _ _ (greys-size ps n o strategy c rows cols (pixels m1 d1) _ ∙ pixels-size ps n o m1 d1 em1 ed1)
+        (greys-size ps n o strategy c rows cols (pixels m2 d2) _ ∙ pixels-size ps n o m2 d2 em2 ed2)))
 
   -- a band with refusal 4
   bad-picture : (decibelsRefused (pixels m1 d1) || decibelsRefused (pixels m2 d2)) ≡ true →
@@ -227,9 +235,17 @@ module _ (ps : List ℕ) (n : ℕ) (o : Order ps n) (strategy : AutoscaleStrateg
       ≡ movedPicture ps (syntheticRgbPicture strategy mode rows cols m1 d1 m2 d2 lent)
   unfolding syntheticRgbPicture pictureTests
   bad-picture h =
-      rw (moved-pixels ps n o m1 d1 em1 ed1, moved-pixels ps n o m2 d2 em2 ed2, named-moved ps n o rows cols m1 d1 em1 ed1, named-moved ps n o rows cols m2 d2 em2 ed2,
-        mark-moved ps n o m1 em1, mark-moved ps n o m2 em2, decibel-moved ps n o (pixels m1 d1) (pixels-size ps n o m1 d1 em1 ed1),
-        decibel-moved ps n o (pixels m2 d2) (pixels-size ps n o m2 d2 em2 ed2), h)
+      rw (
+        moved-pixels ps n o m1 d1 em1 ed1,
+        moved-pixels ps n o m2 d2 em2 ed2,
+        named-moved ps n o rows cols m1 d1 em1 ed1,
+        named-moved ps n o rows cols m2 d2 em2 ed2,
+        mark-moved ps n o m1 em1,
+        mark-moved ps n o m2 em2,
+        decibel-moved ps n o (pixels m1 d1) (pixels-size ps n o m1 d1 em1 ed1),
+        decibel-moved ps n o (pixels m2 d2) (pixels-size ps n o m2 d2 em2 ed2),
+        h,
+      )
       (bad-answer ps _ _ _ _ _ _ _ _ _)
 
   -- the claim, from windows that paint alike wherever no refusal 4 stands in the way
@@ -241,7 +257,7 @@ module _ (ps : List ℕ) (n : ℕ) (o : Order ps n) (strategy : AutoscaleStrateg
   reordered-picture s1 s2 = go (decibelsRefused (pixels m1 d1) || decibelsRefused (pixels m2 d2)) refl
     where
       go : (t : Bool) → (decibelsRefused (pixels m1 d1) || decibelsRefused (pixels m2 d2)) ≡ t →
-        syntheticRgbPicture strategy mode rows cols (moved 0 ps m1) (moved nan ps d1) (moved 0 ps m2) (moved nan ps d2) lent
-        ≡ movedPicture ps (syntheticRgbPicture strategy mode rows cols m1 d1 m2 d2 lent)
+          syntheticRgbPicture strategy mode rows cols (moved 0 ps m1) (moved nan ps d1) (moved 0 ps m2) (moved nan ps d2) lent
+          ≡ movedPicture ps (syntheticRgbPicture strategy mode rows cols m1 d1 m2 d2 lent)
       go true h = bad-picture h
       go false h = steady-picture (s1 (or-false _ _ h .0)) (s2 (or-false (decibelsRefused (pixels m1 d1)) (decibelsRefused (pixels m2 d2)) h .1))

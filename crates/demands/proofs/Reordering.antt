@@ -61,7 +61,7 @@ same-moments (v ∷ vs) (w ∷ ws) p a b =
     record {
       count = moments-count noMoments (v ∷ vs) ∙ ap (λ (n : ℕ). 0 + n) (perm-length p) ∙ sym (moments-count noMoments (w ∷ ws));
       least = alike (moments-least (withValue noMoments v) vs (λ e. omega (arith, e))) (moments-least (withValue noMoments w) ws (λ e. omega (arith, e))) (least-alike v vs w ws p a b);
-      greatest = alike (moments-greatest (withValue noMoments v) vs (λ e. omega (arith, e))) (moments-greatest (withValue noMoments w) ws (λ e. omega (arith, e))) (greatest-alike v vs w ws p a b)
+      greatest = alike (moments-greatest (withValue noMoments v) vs (λ e. omega (arith, e))) (moments-greatest (withValue noMoments w) ws (λ e. omega (arith, e))) (greatest-alike v vs w ws p a b);
     }
   where
     alike : {x y x′ y′ : Float} → x ≡ x′ → y ≡ y′ → Alike x′ y′ → Alike x y
@@ -136,6 +136,6 @@ pub reordering : Reordering
 reordering =
     record {
       picture = λ strategy r mode rows cols m1 d1 m2 d2 lent n em1 ed1 em2 ed2 f1 f2 ps o.
-        in-bytes ps _ _ (reordered ps n o strategy r mode rows cols m1 d1 m2 d2 lent em1 ed1 em2 ed2 f1 f2);
-      equation = λ strategy r mode rows cols m1 d1 m2 d2 lent n em1 ed1 em2 ed2 f1 f2 ps o. reordered ps n o strategy r mode rows cols m1 d1 m2 d2 lent em1 ed1 em2 ed2 f1 f2
+          in-bytes ps _ _ (reordered ps n o strategy r mode rows cols m1 d1 m2 d2 lent em1 ed1 em2 ed2 f1 f2);
+      equation = λ strategy r mode rows cols m1 d1 m2 d2 lent n em1 ed1 em2 ed2 f1 f2 ps o. reordered ps n o strategy r mode rows cols m1 d1 m2 d2 lent em1 ed1 em2 ed2 f1 f2;
     }

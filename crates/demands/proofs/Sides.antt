@@ -152,7 +152,7 @@ module _ (strategy : AutoscaleStrategy) (n : isTamed strategy ≡ false) (rows c
   grey-done a b c e f g h i =
       or-zero _ _ (all-clear 1 _ (a, (both-false (both-false b c) e, (f, (g, (h, (ap gammaRefused (sym (window-same strategy n copol (statisticsOf (pixels m d)))) ∙ i, tt)))))))
       ∙ ap done (ap (λ (w : WindowAnswer). stretch (values full8 strategy rows cols (pixels m d) w)) (sym (window-same strategy n copol (statisticsOf (pixels m d))))
-        ∙ sym (greys-same strategy n rows cols (pixels m d) _))
+      ∙ sym (greys-same strategy n rows cols (pixels m d) _))
 
 module _ (strategy : AutoscaleStrategy) (n : isTamed strategy ≡ false) (mode : SyntheticRgbMode) (rows cols : ℕ) (m1 : List ℕ) (d1 : List Float) (m2 : List ℕ) (d2 : List Float) (lent : Lent) where
   picture-grey : (p : Picture) → syntheticRgbPicture strategy mode rows cols m1 d1 m2 d2 lent ≡ done p →
@@ -169,11 +169,12 @@ module _ (strategy : AutoscaleStrategy) (n : isTamed strategy ≡ false) (mode :
       let marks = or-false (marksRefused m1) (marksRefused m2) (a .1 .1 .0) in
       let good = or-false (decibelsRefused (pixels m1 d1)) (decibelsRefused (pixels m2 d2)) (a .1 .1 .1 .0) in
       let tiles = or-false (tilesRefused strategy rows cols (pixels m1 d1)) (tilesRefused strategy rows cols (pixels m2 d2)) (a .1 .1 .1 .1 .0) in
-      let gammas = or-false (gammaRefused (pictureWindow strategy true (statisticsOf (pixels m1 d1)))) (gammaRefused (pictureWindow strategy false (statisticsOf (pixels m2 d2)))) (a .1 .1 .1 .1 .1 .0) in
-      (grey-done strategy n rows cols m1 d1 (lent .grey1) (lent .work) true (a .0) (names .0) (b2 .1) (b5 .1) (marks .0) (good .0) (tiles .0) (gammas .0)
-        ∙ ap done (ap (λ (q : Picture). q .grey1) (h .1)),
-      grey-done strategy n rows cols m2 d2 (lent .grey2) (lent .work) false (a .0) (names .1) (b3 .1) (b5 .1) (marks .1) (good .1) (tiles .1) (gammas .1)
-        ∙ ap done (ap (λ (q : Picture). q .grey2) (h .1)))
+      let gammas = or-false (gammaRefused (pictureWindow strategy true (statisticsOf (pixels m1 d1)))) (gammaRefused (pictureWindow strategy false (statisticsOf (pixels m2 d2)))) (a .1 .1 .1 .1 .1 .0) in (
+        grey-done strategy n rows cols m1 d1 (lent .grey1) (lent .work) true (a .0) (names .0) (b2 .1) (b5 .1) (marks .0) (good .0) (tiles .0) (gammas .0)
+            ∙ ap done (ap (λ (q : Picture). q .grey1) (h .1)),
+        grey-done strategy n rows cols m2 d2 (lent .grey2) (lent .work) false (a .0) (names .1) (b3 .1) (b5 .1) (marks .1) (good .1) (tiles .1) (gammas .1)
+            ∙ ap done (ap (λ (q : Picture). q .grey2) (h .1)),
+      )
 
 pub sides : Sides
 unfolding syntheticRgbPicture createSyntheticRgbByModeAndStrategy
@@ -187,5 +188,5 @@ sides =
       picture-mean-unread = picture-unread;
       picture-greys = λ strategy n mode rows cols m1 d1 m2 d2 lent. picture-grey strategy (not-tamed strategy n) mode rows cols m1 d1 m2 d2 lent;
       picture-modes = λ strategy mode mode′ rows cols m1 d1 m2 d2 lent. refl;
-      composition-modes = λ strategy mode mode′ band1 band2 out. refl
+      composition-modes = λ strategy mode mode′ band1 band2 out. refl;
     }

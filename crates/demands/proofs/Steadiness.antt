@@ -96,8 +96,20 @@ module _ (s s′ : Moments) (h : SameMoments s s′) where
   unfolding gathered
   gathered-alike f f′ a =
       record {
-        count = h .count; least = h .least; greatest = h .greatest; median = a _; p01 = a _; p02 = a _; p05 = a _; p10 = a _; p25 = a _;
-        p75 = a _; p90 = a _; p95 = a _; p98 = a _; p99 = a _
+        count = h .count;
+        least = h .least;
+        greatest = h .greatest;
+        median = a _;
+        p01 = a _;
+        p02 = a _;
+        p05 = a _;
+        p10 = a _;
+        p25 = a _;
+        p75 = a _;
+        p90 = a _;
+        p95 = a _;
+        p98 = a _;
+        p99 = a _;
       }
 
   flat-alike : (p : Float) → Alike (flatPercentile s p .value) (flatPercentile s′ p .value)
@@ -122,12 +134,14 @@ module _ (s s′ : Moments) (h : SameMoments s s′) where
   summary-alike {vs} {vs′} o =
       pick-numbers (lt span flat64) (lt span′ flat64) (lt-alike alike same) (λ e. gathered-alike (flatPercentile s) (flatPercentile s′) flat-alike)
       (λ e. subst (λ (x : Float). SameNumbers (gathered s (spreadPercentile s span vs)) (gathered s′ (spreadPercentile s′ x vs′))) (spread-same alike e)
-        (gathered-alike (spreadPercentile s span vs) (spreadPercentile s′ span vs′) (spread-alike span o)))
+      (gathered-alike (spreadPercentile s span vs) (spreadPercentile s′ span vs′) (spread-alike span o)))
     where
       span : Float
       span = sub binary64 (s .«max_db») (s .«min_db»)
+
       span′ : Float
       span′ = sub binary64 (s′ .«max_db») (s′ .«min_db»)
+
       alike : Alike span span′
       alike = sub-alike (h .greatest) (h .least)
 
@@ -167,8 +181,8 @@ module _ (s s′ : HistogramStats) (h : SameNumbers s s′) where
       either _ _ (lt-alike spread same) (validRange-alike _ (sub-alike (h .median) (div-alike two64 r)) (add-alike (h .median) (div-alike two64 r)))
       (either _ _ (lt-alike iqr same) (validRange-alike _ (sub-alike (h .p25) reach) (add-alike (h .p75) reach))
       (either _ _ (lt-alike same spread)
-        (validRange-alike _ (maxFloat-alike (h .p02) (add-alike (h .least) margin)) (minFloat-alike (h .p98) (sub-alike (h .greatest) margin)))
-        (validRange-alike _ (h .p02) (h .p98))))
+      (validRange-alike _ (maxFloat-alike (h .p02) (add-alike (h .least) margin)) (minFloat-alike (h .p98) (sub-alike (h .greatest) margin)))
+      (validRange-alike _ (h .p02) (h .p98))))
 
   chooseClip-alike : (strategy : AutoscaleStrategy) → (strategy ≡ Adaptive → ⊥) → SameClip (chooseClip strategy s) (chooseClip strategy s′)
   unfolding chooseClip robustClip
@@ -177,7 +191,7 @@ module _ (s s′ : HistogramStats) (h : SameNumbers s s′) where
       record {
         low = maxFloat-alike (maxFloat-alike (sub-alike (h .p25) reach) (h .p01)) (h .least);
         high = minFloat-alike (minFloat-alike (add-alike (h .p75) reach) (h .p99)) (h .greatest);
-        gamma = refl
+        gamma = refl;
       }
   chooseClip-alike Adaptive n = absurd (n refl)
   chooseClip-alike Equalized n = record { low = h .p01; high = h .p99; gamma = refl }
@@ -215,6 +229,7 @@ window-steady strategy n copol s s′ h =
     which : (t : Bool) → SameClip (cond t (tamedClip copol s) (chooseClip strategy s)) (cond t (tamedClip copol s′) (chooseClip strategy s′))
     which true = tamedClip-alike s s′ h copol
     which false = chooseClip-alike s s′ h strategy n
+
     none : (t t′ : Bool) → t ≡ t′ → {w w′ : WindowAnswer} → Steady w w′ → Steady (cond t Blank w) (cond t′ Blank w′)
     none true true e k = record { gamma = refl; paints = λ full p. refl }
     none false false e k = k

@@ -50,7 +50,7 @@ module _ (full : Float) (fp : T (positive full)) (fn : Number full) (top-zero : 
   unfolding valueOf normalized
   value-finite low high v w r p q k h =
       toUnsigned-le 64 _ _ (clamped-le zero64 full _ _ zero-number fn (mul-le binary64 full fp _ _ (div-le binary64 r k _ _ (sub-le binary64 low p _ _
-        (minFloat-le high (maxFloat v low) (maxFloat w low) (number-of-finite high q) (maxFloat-le low v w (number-of-finite low p) h))))))
+      (minFloat-le high (maxFloat v low) (maxFloat w low) (number-of-finite high q) (maxFloat-le low v w (number-of-finite low p) h))))))
 
   pub finite-ends : (low high v w : Float) → T (finite low) → T (finite high) → T (le v w) → valueOf full low high (range low high) v ≤ valueOf full low high (range low high) w
   finite-ends low high v w p q h = elim (range-is low high) [
@@ -156,19 +156,19 @@ module _ (full : Float) (fp : T (positive full)) (fn : Number full) (top-zero : 
   any-ends (inf true) nan = le-of-eq (by-clamp full (inf true) nan (range (inf true) nan) v w (under-nan (maxFloat v (inf true)) ∙ sym (under-nan (maxFloat w (inf true)))))
   any-ends (inf true) (inf true) =
       le-of-eq (by-clamp full (inf true) (inf true) (range (inf true) (inf true)) v w
-        (ap (λ (x : Float). minFloat x (inf true)) (over-bottom v a) ∙ under-bottom v a ∙ sym (ap (λ (x : Float). minFloat x (inf true)) (over-bottom w b) ∙ under-bottom w b)))
+      (ap (λ (x : Float). minFloat x (inf true)) (over-bottom v a) ∙ under-bottom v a ∙ sym (ap (λ (x : Float). minFloat x (inf true)) (over-bottom w b) ∙ under-bottom w b)))
   any-ends (inf true) (inf false) =
       le-of-eq (by-distance full (inf true) (inf false) (range (inf true) (inf false)) v w (far (inf false) v from-infinite a ∙ sym (far (inf false) w from-infinite b)))
   any-ends (inf true) (fin s m e) =
       le-of-eq (by-distance full (inf true) (fin s m e) (range (inf true) (fin s m e)) v w
-        (far (fin s m e) v (from-finite (fin s m e) tt) a ∙ sym (far (fin s m e) w (from-finite (fin s m e) tt) b)))
+      (far (fin s m e) v (from-finite (fin s m e) tt) a ∙ sym (far (fin s m e) w (from-finite (fin s m e) tt) b)))
   any-ends (fin s m e) nan = le-of-eq (by-clamp full (fin s m e) nan (range (fin s m e) nan) v w (under-nan (maxFloat v (fin s m e)) ∙ sym (under-nan (maxFloat w (fin s m e)))))
   any-ends (fin s m e) (inf true) =
       le-of-eq (by-clamp full (fin s m e) (inf true) (range (fin s m e) (inf true)) v w
-        (under-bottom (maxFloat v (fin s m e)) (maxFloat-finite v (fin s m e) a tt) ∙ sym (under-bottom (maxFloat w (fin s m e)) (maxFloat-finite w (fin s m e) b tt))))
+      (under-bottom (maxFloat v (fin s m e)) (maxFloat-finite v (fin s m e) a tt) ∙ sym (under-bottom (maxFloat w (fin s m e)) (maxFloat-finite w (fin s m e) b tt))))
   any-ends (fin s m e) (inf false) =
       le-of-eq (value-top full fp fn top-zero (fin s m e) (inf false) v (range (fin s m e) (inf false)) (from-top (fin s m e) tt)
-        ∙ sym (value-top full fp fn top-zero (fin s m e) (inf false) w (range (fin s m e) (inf false)) (from-top (fin s m e) tt)))
+      ∙ sym (value-top full fp fn top-zero (fin s m e) (inf false) w (range (fin s m e) (inf false)) (from-top (fin s m e) tt)))
   any-ends (fin s m e) (fin t n d) = finite-ends full fp fn top-zero (fin s m e) (fin t n d) v w tt tt h
 
 -- of two finite pixels under one window, the brighter has no smaller value: at 255 and at 65535

@@ -16,19 +16,19 @@ use Rattle.spec.specs.Picture.{syntheticRgbPicture}
 -- An answer is the refusal with its number, or all that comes with being done: equal answers are equal results, done or refused.
 pub record Alteration : Type 0 where
   pub statistics :
-    (rows cols : ℕ) (marks : List ℕ) (db db′ : List Float) → Altered marks db db′ →
-    computeHistogramStats rows cols marks db ≡ computeHistogramStats rows cols marks db′
+      (rows cols : ℕ) (marks : List ℕ) (db db′ : List Float) → Altered marks db db′ →
+      computeHistogramStats rows cols marks db ≡ computeHistogramStats rows cols marks db′
   pub window :
-    (strategy : AutoscaleStrategy) (rows cols : ℕ) (marks : List ℕ) (db db′ : List Float) → Altered marks db db′ →
-    autoscaleWindow strategy rows cols marks db ≡ autoscaleWindow strategy rows cols marks db′
+      (strategy : AutoscaleStrategy) (rows cols : ℕ) (marks : List ℕ) (db db′ : List Float) → Altered marks db db′ →
+      autoscaleWindow strategy rows cols marks db ≡ autoscaleWindow strategy rows cols marks db′
   pub at-8-bits :
-    (strategy : AutoscaleStrategy) (rows cols : ℕ) (marks : List ℕ) (db db′ : List Float) (out work : ℕ) → Altered marks db db′ →
-    autoscaleDbImageToU8 strategy rows cols marks db out work ≡ autoscaleDbImageToU8 strategy rows cols marks db′ out work
+      (strategy : AutoscaleStrategy) (rows cols : ℕ) (marks : List ℕ) (db db′ : List Float) (out work : ℕ) → Altered marks db db′ →
+      autoscaleDbImageToU8 strategy rows cols marks db out work ≡ autoscaleDbImageToU8 strategy rows cols marks db′ out work
   pub at-16-bits :
-    (strategy : AutoscaleStrategy) (rows cols : ℕ) (marks : List ℕ) (db db′ : List Float) (out work : ℕ) → Altered marks db db′ →
-    autoscaleDbImageToU16 strategy rows cols marks db out work ≡ autoscaleDbImageToU16 strategy rows cols marks db′ out work
+      (strategy : AutoscaleStrategy) (rows cols : ℕ) (marks : List ℕ) (db db′ : List Float) (out work : ℕ) → Altered marks db db′ →
+      autoscaleDbImageToU16 strategy rows cols marks db out work ≡ autoscaleDbImageToU16 strategy rows cols marks db′ out work
   -- "in one band or both": a band is an alteration of itself
   pub picture :
-    (strategy : AutoscaleStrategy) (mode : SyntheticRgbMode) (rows cols : ℕ) (marks1 : List ℕ) (db1 db1′ : List Float) (marks2 : List ℕ) (db2 db2′ : List Float) (lent : Lent) →
-    Altered marks1 db1 db1′ → Altered marks2 db2 db2′ →
-    syntheticRgbPicture strategy mode rows cols marks1 db1 marks2 db2 lent ≡ syntheticRgbPicture strategy mode rows cols marks1 db1′ marks2 db2′ lent
+      (strategy : AutoscaleStrategy) (mode : SyntheticRgbMode) (rows cols : ℕ) (marks1 : List ℕ) (db1 db1′ : List Float) (marks2 : List ℕ) (db2 db2′ : List Float) (lent : Lent) →
+      Altered marks1 db1 db1′ → Altered marks2 db2 db2′ →
+      syntheticRgbPicture strategy mode rows cols marks1 db1 marks2 db2 lent ≡ syntheticRgbPicture strategy mode rows cols marks1 db1′ marks2 db2′ lent

@@ -26,12 +26,12 @@ Ranked marks db greys =
 -- "That holds for every call that turns decibels into greys and is done, at 8 or 16 bits."
 pub record GreyOrder : Type 0 where
   pub at-8-bits :
-    (strategy : AutoscaleStrategy) → OutsideClahe strategy → (rows cols : ℕ) (marks : List ℕ) (db : List Float) (out work : ℕ) (greys : List ℕ) →
-    autoscaleDbImageToU8 strategy rows cols marks db out work ≡ done greys → Ranked marks db greys
+      (strategy : AutoscaleStrategy) → OutsideClahe strategy → (rows cols : ℕ) (marks : List ℕ) (db : List Float) (out work : ℕ) (greys : List ℕ) →
+      autoscaleDbImageToU8 strategy rows cols marks db out work ≡ done greys → Ranked marks db greys
   pub at-16-bits :
-    (strategy : AutoscaleStrategy) → OutsideClahe strategy → (rows cols : ℕ) (marks : List ℕ) (db : List Float) (out work : ℕ) (greys : List ℕ) →
-    autoscaleDbImageToU16 strategy rows cols marks db out work ≡ done greys → Ranked marks db greys
+      (strategy : AutoscaleStrategy) → OutsideClahe strategy → (rows cols : ℕ) (marks : List ℕ) (db : List Float) (out work : ℕ) (greys : List ℕ) →
+      autoscaleDbImageToU16 strategy rows cols marks db out work ≡ done greys → Ranked marks db greys
   pub picture :
-    (strategy : AutoscaleStrategy) → OutsideClahe strategy → (mode : SyntheticRgbMode) (rows cols : ℕ) (marks1 : List ℕ) (db1 : List Float) (marks2 : List ℕ) (db2 : List Float)
-    (lent : Lent) (p : Picture) →
-    syntheticRgbPicture strategy mode rows cols marks1 db1 marks2 db2 lent ≡ done p → Ranked marks1 db1 (p .grey1) × Ranked marks2 db2 (p .grey2)
+      (strategy : AutoscaleStrategy) → OutsideClahe strategy → (mode : SyntheticRgbMode) (rows cols : ℕ) (marks1 : List ℕ) (db1 : List Float) (marks2 : List ℕ) (db2 : List Float)
+      (lent : Lent) (p : Picture) →
+      syntheticRgbPicture strategy mode rows cols marks1 db1 marks2 db2 lent ≡ done p → Ranked marks1 db1 (p .grey1) × Ranked marks2 db2 (p .grey2)

@@ -31,20 +31,20 @@ movedTriples (i ∷ ps) bytes = getD bytes (3 * i) 0 ∷ getD bytes (3 * i + 1) 
 pub data MovedBy (ps : List ℕ) : Answer Picture → Answer Picture → Type 0 where
   same-refusal : (k : ℕ) → MovedBy ps (refused k) (refused k)
   both-done : {p q : Picture} →
-    q .grey1 ≡ moved 0 ps (p .grey1) → q .grey2 ≡ moved 0 ps (p .grey2) → bytesOf (q .colours) ≡ movedTriples ps (bytesOf (p .colours)) →
-    MovedBy ps (done p) (done q)
+      q .grey1 ≡ moved 0 ps (p .grey1) → q .grey2 ≡ moved 0 ps (p .grey2) → bytesOf (q .colours) ≡ movedTriples ps (bytesOf (p .colours)) →
+      MovedBy ps (done p) (done q)
 
 -- "A reordering is one permutation of the places of four lists of one length, n or not: dB and marks of both bands."
 -- "the two scenes compared have the same sides, strategy, mode and lent lengths"
 pub record Reordering : Type 0 where
   pub picture :
-    (strategy : AutoscaleStrategy) → Reorders strategy → (mode : SyntheticRgbMode) (rows cols : ℕ) (marks1 : List ℕ) (db1 : List Float) (marks2 : List ℕ) (db2 : List Float) (lent : Lent)
-    (size : ℕ) → length marks1 ≡ size → length db1 ≡ size → length marks2 ≡ size → length db2 ≡ size → AreF64 db1 → AreF64 db2 → (ps : List ℕ) → Order ps size →
-    MovedBy ps (syntheticRgbPicture strategy mode rows cols marks1 db1 marks2 db2 lent)
+      (strategy : AutoscaleStrategy) → Reorders strategy → (mode : SyntheticRgbMode) (rows cols : ℕ) (marks1 : List ℕ) (db1 : List Float) (marks2 : List ℕ) (db2 : List Float) (lent : Lent)
+      (size : ℕ) → length marks1 ≡ size → length db1 ≡ size → length marks2 ≡ size → length db2 ≡ size → AreF64 db1 → AreF64 db2 → (ps : List ℕ) → Order ps size →
+      MovedBy ps (syntheticRgbPicture strategy mode rows cols marks1 db1 marks2 db2 lent)
       (syntheticRgbPicture strategy mode rows cols (moved 0 ps marks1) (moved nan ps db1) (moved 0 ps marks2) (moved nan ps db2) lent)
   -- the same as one equation
   pub equation :
-    (strategy : AutoscaleStrategy) → Reorders strategy → (mode : SyntheticRgbMode) (rows cols : ℕ) (marks1 : List ℕ) (db1 : List Float) (marks2 : List ℕ) (db2 : List Float) (lent : Lent)
-    (size : ℕ) → length marks1 ≡ size → length db1 ≡ size → length marks2 ≡ size → length db2 ≡ size → AreF64 db1 → AreF64 db2 → (ps : List ℕ) → Order ps size →
-    syntheticRgbPicture strategy mode rows cols (moved 0 ps marks1) (moved nan ps db1) (moved 0 ps marks2) (moved nan ps db2) lent
+      (strategy : AutoscaleStrategy) → Reorders strategy → (mode : SyntheticRgbMode) (rows cols : ℕ) (marks1 : List ℕ) (db1 : List Float) (marks2 : List ℕ) (db2 : List Float) (lent : Lent)
+      (size : ℕ) → length marks1 ≡ size → length db1 ≡ size → length marks2 ≡ size → length db2 ≡ size → AreF64 db1 → AreF64 db2 → (ps : List ℕ) → Order ps size →
+      syntheticRgbPicture strategy mode rows cols (moved 0 ps marks1) (moved nan ps db1) (moved 0 ps marks2) (moved nan ps db2) lent
       ≡ movedPicture ps (syntheticRgbPicture strategy mode rows cols marks1 db1 marks2 db2 lent)

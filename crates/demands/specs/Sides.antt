@@ -23,37 +23,51 @@ use Rattle.spec.specs.Picture.{Picture, syntheticRgbPicture}
 abbrev pub withMean : Float → Float → HistogramStats → HistogramStats
 withMean m d s =
     record {
-      «valid_count» = s .«valid_count»; «min_db» = s .«min_db»; «max_db» = s .«max_db»; «mean_db» = m; «std_db» = d; «median_db» = s .«median_db»;
-      p01 = s .p01; p02 = s .p02; p05 = s .p05; p10 = s .p10; p25 = s .p25; p75 = s .p75; p90 = s .p90; p95 = s .p95; p98 = s .p98; p99 = s .p99
+      «valid_count» = s .«valid_count»;
+      «min_db» = s .«min_db»;
+      «max_db» = s .«max_db»;
+      «mean_db» = m;
+      «std_db» = d;
+      «median_db» = s .«median_db»;
+      p01 = s .p01;
+      p02 = s .p02;
+      p05 = s .p05;
+      p10 = s .p10;
+      p25 = s .p25;
+      p75 = s .p75;
+      p90 = s .p90;
+      p95 = s .p95;
+      p98 = s .p98;
+      p99 = s .p99;
     }
 
 pub record Sides : Type 0 where
   -- "An invented valid count: it equals the number of 1 marks."
   pub count :
-    (rows cols : ℕ) (marks : List ℕ) (db : List Float) (s : HistogramStats) → computeHistogramStats rows cols marks db ≡ done s → s .«valid_count» ≡ countOf 1 marks
+      (rows cols : ℕ) (marks : List ℕ) (db : List Float) (s : HistogramStats) → computeHistogramStats rows cols marks db ≡ done s → s .«valid_count» ≡ countOf 1 marks
   -- "The bins sum to the valid count."
   pub bins : (least inv : Float) (vs : List Float) → sumOf (histogram (map (binOf least inv) vs)) ≡ length vs
   -- "A window is blank exactly if no refusal applies and no mark is 1." A blank window has no floats.
   pub blank :
-    (strategy : AutoscaleStrategy) (rows cols : ℕ) (marks : List ℕ) (db : List Float) →
-    number (autoscaleWindow strategy rows cols marks db) ≡ 0 → countOf 1 marks ≡ 0 → autoscaleWindow strategy rows cols marks db ≡ done []
+      (strategy : AutoscaleStrategy) (rows cols : ℕ) (marks : List ℕ) (db : List Float) →
+      number (autoscaleWindow strategy rows cols marks db) ≡ 0 → countOf 1 marks ≡ 0 → autoscaleWindow strategy rows cols marks db ≡ done []
   pub only-blank :
-    (strategy : AutoscaleStrategy) (rows cols : ℕ) (marks : List ℕ) (db : List Float) →
-    autoscaleWindow strategy rows cols marks db ≡ done [] → countOf 1 marks ≡ 0
+      (strategy : AutoscaleStrategy) (rows cols : ℕ) (marks : List ℕ) (db : List Float) →
+      autoscaleWindow strategy rows cols marks db ≡ done [] → countOf 1 marks ≡ 0
   -- only Adaptive reads the mean and the deviation
   pub mean-unread :
-    (strategy : AutoscaleStrategy) → (strategy ≡ Adaptive → ⊥) → (s : HistogramStats) (m d : Float) → windowOf strategy (withMean m d s) ≡ windowOf strategy s
+      (strategy : AutoscaleStrategy) → (strategy ≡ Adaptive → ⊥) → (s : HistogramStats) (m d : Float) → windowOf strategy (withMean m d s) ≡ windowOf strategy s
   pub picture-mean-unread :
-    (strategy : AutoscaleStrategy) → (strategy ≡ Adaptive → ⊥) → (copol : Bool) (s : HistogramStats) (m d : Float) →
-    pictureWindow strategy copol (withMean m d s) ≡ pictureWindow strategy copol s
+      (strategy : AutoscaleStrategy) → (strategy ≡ Adaptive → ⊥) → (copol : Bool) (s : HistogramStats) (m d : Float) →
+      pictureWindow strategy copol (withMean m d s) ≡ pictureWindow strategy copol s
   -- outside Tamed the greys of a picture are those of the grey call at 8 bits
   pub picture-greys :
-    (strategy : AutoscaleStrategy) → (strategy ≡ Tamed → ⊥) → (mode : SyntheticRgbMode) (rows cols : ℕ) (marks1 : List ℕ) (db1 : List Float) (marks2 : List ℕ) (db2 : List Float)
-    (lent : Lent) (p : Picture) → syntheticRgbPicture strategy mode rows cols marks1 db1 marks2 db2 lent ≡ done p →
-    (autoscaleDbImageToU8 strategy rows cols marks1 db1 (lent .grey1) (lent .work) ≡ done (p .grey1)) × (autoscaleDbImageToU8 strategy rows cols marks2 db2 (lent .grey2) (lent .work) ≡ done (p .grey2))
+      (strategy : AutoscaleStrategy) → (strategy ≡ Tamed → ⊥) → (mode : SyntheticRgbMode) (rows cols : ℕ) (marks1 : List ℕ) (db1 : List Float) (marks2 : List ℕ) (db2 : List Float)
+      (lent : Lent) (p : Picture) → syntheticRgbPicture strategy mode rows cols marks1 db1 marks2 db2 lent ≡ done p →
+      (autoscaleDbImageToU8 strategy rows cols marks1 db1 (lent .grey1) (lent .work) ≡ done (p .grey1)) × (autoscaleDbImageToU8 strategy rows cols marks2 db2 (lent .grey2) (lent .work) ≡ done (p .grey2))
   -- "all modes agree"
   pub picture-modes :
-    (strategy : AutoscaleStrategy) (mode mode′ : SyntheticRgbMode) (rows cols : ℕ) (marks1 : List ℕ) (db1 : List Float) (marks2 : List ℕ) (db2 : List Float) (lent : Lent) →
-    syntheticRgbPicture strategy mode rows cols marks1 db1 marks2 db2 lent ≡ syntheticRgbPicture strategy mode′ rows cols marks1 db1 marks2 db2 lent
+      (strategy : AutoscaleStrategy) (mode mode′ : SyntheticRgbMode) (rows cols : ℕ) (marks1 : List ℕ) (db1 : List Float) (marks2 : List ℕ) (db2 : List Float) (lent : Lent) →
+      syntheticRgbPicture strategy mode rows cols marks1 db1 marks2 db2 lent ≡ syntheticRgbPicture strategy mode′ rows cols marks1 db1 marks2 db2 lent
   pub composition-modes :
-    (strategy : AutoscaleStrategy) (mode mode′ : SyntheticRgbMode) (band1 band2 : List ℕ) (out : ℕ) → createSyntheticRgbByModeAndStrategy mode strategy band1 band2 out ≡ createSyntheticRgbByModeAndStrategy mode′ strategy band1 band2 out
+      (strategy : AutoscaleStrategy) (mode mode′ : SyntheticRgbMode) (band1 band2 : List ℕ) (out : ℕ) → createSyntheticRgbByModeAndStrategy mode strategy band1 band2 out ≡ createSyntheticRgbByModeAndStrategy mode′ strategy band1 band2 out

@@ -73,5 +73,5 @@ module _ (strategy : AutoscaleStrategy) (rows cols : ℕ) (m1 : List ℕ) (d1 : 
       record {
         band1 = record { band = sized rows cols m1 d1 (a .0) (n .0); out-length = named (lent .grey1) (rows * cols) (g1 .1); work-length = k };
         band2 = record { band = sized rows cols m2 d2 (a .0) (n .1); out-length = named (lent .grey2) (rows * cols) (g2 .1); work-length = k };
-        rgb-length = named (lent .rgb) (3 * (rows * cols)) (c .1)
+        rgb-length = named (lent .rgb) (3 * (rows * cols)) (c .1);
       }

@@ -144,8 +144,13 @@ module _ (strategy : AutoscaleStrategy) (rows cols : ℕ) (m1 : List ℕ) (d1 : 
         let h1 : g1 ≡ greys w01 px1 = e1 ∙ ap (λ (v : WindowAnswer). greys v px1) (parts .1) in
         let h2 : g2 ≡ greys w02 px2 = e2 ∙ ap (λ (v : WindowAnswer). greys v px2) (parts .2) in
         let hc : c ≡ bytesOf (coloursOf strategy (greys w01 px1) (greys w02 px2)) =
-            ec ∙ ap (λ (l : List ℕ). bytesOf (coloursOf strategy l g2)) h1 ∙ ap (λ (l : List ℕ). bytesOf (coloursOf strategy (greys w01 px1) l)) h2 in
-        (sym (ap number is-done),
-        (h1 ∙ by-answer _ grey1 (done painted) is-done,
-        (h2 ∙ by-answer _ grey2 (done painted) is-done,
-        (hc ∙ by-answer _ rgb (done painted) is-done, rw is-done k))))
+        ec ∙ ap (λ (l : List ℕ). bytesOf (coloursOf strategy l g2)) h1 ∙ ap (λ (l : List ℕ). bytesOf (coloursOf strategy (greys w01 px1) l)) h2 in (
+          sym (ap number is-done),
+          (
+            h1 ∙ by-answer _ grey1 (done painted) is-done,
+            (
+              h2 ∙ by-answer _ grey2 (done painted) is-done,
+              (hc ∙ by-answer _ rgb (done painted) is-done, rw is-done k),
+            ),
+          ),
+        )

@@ -81,14 +81,14 @@ unfolding windowTilesRefused hasWindow
 tiles-none strategy rows cols (Window low high range gamma) h = absurd (miss (1 ∷ 2 ∷ []) 0 tt h)
 tiles-none strategy rows cols Blank h = none (isClahe strategy)
   where
-  none : (b : Bool) → false ≡ (b && false && (sideRefused rows || sideRefused cols))
-  none true = refl
-  none false = refl
+    none : (b : Bool) → false ≡ (b && false && (sideRefused rows || sideRefused cols))
+    none true = refl
+    none false = refl
 tiles-none strategy rows cols (Refused k) h = none (isClahe strategy)
   where
-  none : (b : Bool) → false ≡ (b && false && (sideRefused rows || sideRefused cols))
-  none true = refl
-  none false = refl
+    none : (b : Bool) → false ≡ (b && false && (sideRefused rows || sideRefused cols))
+    none true = refl
+    none false = refl
 
 -- ---- refused with 4 by a bad dB
 

@@ -15,7 +15,10 @@ ghost use Rattle.pipeline.specs.Ready.{Ready};
 ghost use Rattle.pipeline.specs.Work.{Kept};
 use crate::strategies;
 use stretch::Ends;
-use types::{AutoscaleStrategy, Sides, WindowAnswer, WindowFloats};
+use types::AutoscaleStrategy;
+use types::Sides;
+use types::WindowAnswer;
+use types::WindowFloats;
 
 // The least and the greatest of some bytes, 65535 and 0 of none.
 fn byte_ends(bytes: &[u8]) -> Ends
@@ -44,7 +47,14 @@ fn scale_bytes(bytes: &mut [u8])
 }
 
 // The greys of a band at 8 bits from its window, by Clahe: equalised, then stretched.
-fn tiled_greys_u8(sides: Sides, db: &[f64], valid_mask: &[u8], window: WindowAnswer, out: &mut [u8], work: &mut [f64])
+fn tiled_greys_u8(
+    sides: Sides,
+    db: &[f64],
+    valid_mask: &[u8],
+    window: WindowAnswer,
+    out: &mut [u8],
+    work: &mut [f64],
+)
     requires { ⌜ Ready Clahe sides (now «valid_mask») (now db) (length (now out)) (length (now work)) ⌝ ∗ ⌜ opens window ≡ true ⌝ }
     ensures { λ _. ⌜ now (out .exit) ≡ Stretch.stretch (values full8 Clahe (sides .rows) (sides .cols) (pixels (now («valid_mask» .entry)) (now (db .entry))) window) ⌝ }
 {
@@ -58,12 +68,31 @@ fn tiled_greys_u8(sides: Sides, db: &[f64], valid_mask: &[u8], window: WindowAns
         lists::clear_u8(out);
         return;
     };
-    clahe::clahe_values_u8(db, valid_mask, sides, WindowFloats { low, high, range, gamma }, work, out);
+    clahe::clahe_values_u8(
+        db,
+        valid_mask,
+        sides,
+        WindowFloats {
+            low,
+            high,
+            range,
+            gamma,
+        },
+        work,
+        out,
+    );
     scale_bytes(out);
 }
 
 // The values of a band at 16 bits from its window, by Clahe.
-fn tiled_values_u16(sides: Sides, db: &[f64], valid_mask: &[u8], window: WindowAnswer, out: &mut [u16], work: &mut [f64])
+fn tiled_values_u16(
+    sides: Sides,
+    db: &[f64],
+    valid_mask: &[u8],
+    window: WindowAnswer,
+    out: &mut [u16],
+    work: &mut [f64],
+)
     requires { ⌜ Ready Clahe sides (now «valid_mask») (now db) (length (now out)) (length (now work)) ⌝ ∗ ⌜ opens window ≡ true ⌝ }
     ensures { λ _. ⌜ now (out .exit) ≡ values full16 Clahe (sides .rows) (sides .cols) (pixels (now («valid_mask» .entry)) (now (db .entry))) window ⌝ }
 {
@@ -77,11 +106,31 @@ fn tiled_values_u16(sides: Sides, db: &[f64], valid_mask: &[u8], window: WindowA
         lists::clear_u16(out);
         return;
     };
-    clahe::clahe_values_u16(db, valid_mask, sides, WindowFloats { low, high, range, gamma }, work, out);
+    clahe::clahe_values_u16(
+        db,
+        valid_mask,
+        sides,
+        WindowFloats {
+            low,
+            high,
+            range,
+            gamma,
+        },
+        work,
+        out,
+    );
 }
 
 // The greys of a band at 8 bits from its window: painted or equalised, then stretched.
-pub(crate) fn greys_u8(sides: Sides, strategy: AutoscaleStrategy, db: &[f64], valid_mask: &[u8], window: WindowAnswer, out: &mut [u8], work: &mut [f64])
+pub(crate) fn greys_u8(
+    sides: Sides,
+    strategy: AutoscaleStrategy,
+    db: &[f64],
+    valid_mask: &[u8],
+    window: WindowAnswer,
+    out: &mut [u8],
+    work: &mut [f64],
+)
     requires { ⌜ Ready strategy sides (now «valid_mask») (now db) (length (now out)) (length (now work)) ⌝ ∗ ⌜ opens window ≡ true ⌝ }
     ensures { λ _. ⌜ now (out .exit) ≡ Stretch.stretch (values full8 strategy (sides .rows) (sides .cols) (pixels (now («valid_mask» .entry)) (now (db .entry))) window) ⌝ }
     ensures { λ _. ⌜ Kept (isClahe strategy) (now (work .entry)) (now (work .exit)) ⌝ }
@@ -94,7 +143,15 @@ pub(crate) fn greys_u8(sides: Sides, strategy: AutoscaleStrategy, db: &[f64], va
 }
 
 // The values of a band at 16 bits from its window: painted or equalised.
-pub(crate) fn values_u16(sides: Sides, strategy: AutoscaleStrategy, db: &[f64], valid_mask: &[u8], window: WindowAnswer, out: &mut [u16], work: &mut [f64])
+pub(crate) fn values_u16(
+    sides: Sides,
+    strategy: AutoscaleStrategy,
+    db: &[f64],
+    valid_mask: &[u8],
+    window: WindowAnswer,
+    out: &mut [u16],
+    work: &mut [f64],
+)
     requires { ⌜ Ready strategy sides (now «valid_mask») (now db) (length (now out)) (length (now work)) ⌝ ∗ ⌜ opens window ≡ true ⌝ }
     ensures { λ _. ⌜ now (out .exit) ≡ values full16 strategy (sides .rows) (sides .cols) (pixels (now («valid_mask» .entry)) (now (db .entry))) window ⌝ }
     ensures { λ _. ⌜ Kept (isClahe strategy) (now (work .entry)) (now (work .exit)) ⌝ }
@@ -107,7 +164,15 @@ pub(crate) fn values_u16(sides: Sides, strategy: AutoscaleStrategy, db: &[f64], 
 }
 
 // The greys of one band of a picture: under Tamed not stretched.
-pub(crate) fn picture_greys(sides: Sides, strategy: AutoscaleStrategy, db: &[f64], valid_mask: &[u8], window: WindowAnswer, out: &mut [u8], work: &mut [f64])
+pub(crate) fn picture_greys(
+    sides: Sides,
+    strategy: AutoscaleStrategy,
+    db: &[f64],
+    valid_mask: &[u8],
+    window: WindowAnswer,
+    out: &mut [u8],
+    work: &mut [f64],
+)
     requires { ⌜ Ready strategy sides (now «valid_mask») (now db) (length (now out)) (length (now work)) ⌝ ∗ ⌜ opens window ≡ true ⌝ }
     ensures { λ _. ⌜ now (out .exit) ≡ pictureGreys strategy (sides .rows) (sides .cols) (pixels (now («valid_mask» .entry)) (now (db .entry))) window ⌝ }
     ensures { λ _. ⌜ Kept (isClahe strategy) (now (work .entry)) (now (work .exit)) ⌝ }

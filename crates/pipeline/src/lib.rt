@@ -8,11 +8,24 @@ ghost use Rattle.spec.specs.Answer.{number, replyNumber, after};
 ghost use Rattle.spec.specs.Colour.{bytesOf};
 ghost use Rattle.pipeline.specs.Answers.{answerU8, answerU16, answerPicture};
 ghost use Rattle.pipeline.specs.Work.{uses, Kept};
-use types::{AutoscaleStrategy, Lent, Reply, Sides, SyntheticRgbMode, WindowAnswer};
+use types::AutoscaleStrategy;
+use types::Lent;
+use types::Reply;
+use types::Sides;
+use types::SyntheticRgbMode;
+use types::WindowAnswer;
 use windows::PictureWindows;
 
 // Grey of one band at 8 bits.
-pub fn autoscale_db_image_to_u8(rows: usize, cols: usize, strategy: AutoscaleStrategy, db: &[f64], valid_mask: &[u8], out: &mut [u8], work: &mut [f64]) -> Reply
+pub fn autoscale_db_image_to_u8(
+    rows: usize,
+    cols: usize,
+    strategy: AutoscaleStrategy,
+    db: &[f64],
+    valid_mask: &[u8],
+    out: &mut [u8],
+    work: &mut [f64],
+) -> Reply
     ensures reply { λ r. ⌜ replyNumber r ≡ number (answerU8 strategy rows cols (now («valid_mask» .entry)) (now (db .entry)) (now (out .entry)) (now (work .entry))) ⌝ }
     ensures greys { λ _. ⌜ now (out .exit) ≡ after (λ l. l) (answerU8 strategy rows cols (now («valid_mask» .entry)) (now (db .entry)) (now (out .entry)) (now (work .entry))) (now (out .entry)) ⌝ }
     ensures work { λ _. ⌜ Kept (uses strategy (answerU8 strategy rows cols (now («valid_mask» .entry)) (now (db .entry)) (now (out .entry)) (now (work .entry)))) (now (work .entry)) (now (work .exit)) ⌝ }
@@ -21,12 +34,21 @@ pub fn autoscale_db_image_to_u8(rows: usize, cols: usize, strategy: AutoscaleStr
     if let WindowAnswer::Refused(k) = window {
         return Reply::Refused(k);
     }
-    bands::greys_u8(Sides { rows, cols }, strategy, db, valid_mask, window, out, work);
+    let sides = Sides { rows, cols };
+    bands::greys_u8(sides, strategy, db, valid_mask, window, out, work);
     Reply::Done
 }
 
 // Grey of one band at 16 bits: no stretch.
-pub fn autoscale_db_image_to_u16(rows: usize, cols: usize, strategy: AutoscaleStrategy, db: &[f64], valid_mask: &[u8], out: &mut [u16], work: &mut [f64]) -> Reply
+pub fn autoscale_db_image_to_u16(
+    rows: usize,
+    cols: usize,
+    strategy: AutoscaleStrategy,
+    db: &[f64],
+    valid_mask: &[u8],
+    out: &mut [u16],
+    work: &mut [f64],
+) -> Reply
     ensures reply { λ r. ⌜ replyNumber r ≡ number (answerU16 strategy rows cols (now («valid_mask» .entry)) (now (db .entry)) (now (out .entry)) (now (work .entry))) ⌝ }
     ensures greys { λ _. ⌜ now (out .exit) ≡ after (λ l. l) (answerU16 strategy rows cols (now («valid_mask» .entry)) (now (db .entry)) (now (out .entry)) (now (work .entry))) (now (out .entry)) ⌝ }
     ensures work { λ _. ⌜ Kept (uses strategy (answerU16 strategy rows cols (now («valid_mask» .entry)) (now (db .entry)) (now (out .entry)) (now (work .entry)))) (now (work .entry)) (now (work .exit)) ⌝ }
@@ -35,12 +57,26 @@ pub fn autoscale_db_image_to_u16(rows: usize, cols: usize, strategy: AutoscaleSt
     if let WindowAnswer::Refused(k) = window {
         return Reply::Refused(k);
     }
-    bands::values_u16(Sides { rows, cols }, strategy, db, valid_mask, window, out, work);
+    let sides = Sides { rows, cols };
+    bands::values_u16(sides, strategy, db, valid_mask, window, out, work);
     Reply::Done
 }
 
 // The picture of two bands: both windows first, then the greys, then the colours. Under Tamed band 1 counts as co-pol.
-pub fn synthetic_rgb_picture(rows: usize, cols: usize, strategy: AutoscaleStrategy, mode: SyntheticRgbMode, db1: &[f64], valid_mask1: &[u8], db2: &[f64], valid_mask2: &[u8], grey1: &mut [u8], grey2: &mut [u8], rgb: &mut [u8], work: &mut [f64]) -> Reply
+pub fn synthetic_rgb_picture(
+    rows: usize,
+    cols: usize,
+    strategy: AutoscaleStrategy,
+    mode: SyntheticRgbMode,
+    db1: &[f64],
+    valid_mask1: &[u8],
+    db2: &[f64],
+    valid_mask2: &[u8],
+    grey1: &mut [u8],
+    grey2: &mut [u8],
+    rgb: &mut [u8],
+    work: &mut [f64],
+) -> Reply
     ensures reply { λ r. ⌜ replyNumber r ≡ number (answerPicture strategy mode rows cols (now («valid_mask1» .entry)) (now (db1 .entry)) (now («valid_mask2» .entry)) (now (db2 .entry)) (now (grey1 .entry)) (now (grey2 .entry)) (now (rgb .entry)) (now (work .entry))) ⌝ }
     ensures grey1 { λ _. ⌜ now (grey1 .exit) ≡ after (λ p. p .grey1) (answerPicture strategy mode rows cols (now («valid_mask1» .entry)) (now (db1 .entry)) (now («valid_mask2» .entry)) (now (db2 .entry)) (now (grey1 .entry)) (now (grey2 .entry)) (now (rgb .entry)) (now (work .entry))) (now (grey1 .entry)) ⌝ }
     ensures grey2 { λ _. ⌜ now (grey2 .exit) ≡ after (λ p. p .grey2) (answerPicture strategy mode rows cols (now («valid_mask1» .entry)) (now (db1 .entry)) (now («valid_mask2» .entry)) (now (db2 .entry)) (now (grey1 .entry)) (now (grey2 .entry)) (now (rgb .entry)) (now (work .entry))) (now (grey2 .entry)) ⌝ }
@@ -53,7 +89,16 @@ pub fn synthetic_rgb_picture(rows: usize, cols: usize, strategy: AutoscaleStrate
         rgb: rgb.len(),
         work: work.len(),
     };
-    match windows::picture_windows(rows, cols, strategy, db1, valid_mask1, db2, valid_mask2, lent) {
+    match windows::picture_windows(
+        rows,
+        cols,
+        strategy,
+        db1,
+        valid_mask1,
+        db2,
+        valid_mask2,
+        lent,
+    ) {
         PictureWindows::Refused(k) => Reply::Refused(k),
         PictureWindows::Windows(window1, window2) => {
             let sides = Sides { rows, cols };

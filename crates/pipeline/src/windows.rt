@@ -8,7 +8,9 @@ ghost use Rattle.spec.specs.Refusals.{sidesRefused, lengthsRefused, unlike, wor
 ghost use Rattle.spec.specs.Window.{gammaRefused};
 ghost use Rattle.pipeline.specs.Windows.{windowTilesRefused, greyWindow, pictureLengthsRefused, pictureWindows};
 use crate::strategies;
-use types::{AutoscaleStrategy, Lent, WindowAnswer};
+use types::AutoscaleStrategy;
+use types::Lent;
+use types::WindowAnswer;
 
 // Both windows of a picture, or the number that refuses the call.
 pub enum PictureWindows {
@@ -27,7 +29,12 @@ fn work_refused(strategy: AutoscaleStrategy, work: usize) -> bool
 }
 
 // 5: whether Clahe refuses a side, of a band with this window.
-fn window_tiles_refused(strategy: AutoscaleStrategy, rows: usize, cols: usize, window: WindowAnswer) -> bool
+fn window_tiles_refused(
+    strategy: AutoscaleStrategy,
+    rows: usize,
+    cols: usize,
+    window: WindowAnswer,
+) -> bool
     requires { ⌜ (rows ≤ 4096) × (cols ≤ 4096) ⌝ }
     ensures { λ r. ⌜ r ≡ windowTilesRefused strategy rows cols window ⌝ }
 {
@@ -47,7 +54,15 @@ fn window_tiles_refused(strategy: AutoscaleStrategy, rows: usize, cols: usize, w
 }
 
 // 2 of a grey call: whether a lent length is not the one named.
-fn grey_lengths_refused(rows: usize, cols: usize, strategy: AutoscaleStrategy, db: &[f64], valid_mask: &[u8], out: usize, work: usize) -> bool
+fn grey_lengths_refused(
+    rows: usize,
+    cols: usize,
+    strategy: AutoscaleStrategy,
+    db: &[f64],
+    valid_mask: &[u8],
+    out: usize,
+    work: usize,
+) -> bool
     requires { ⌜ (rows ≤ 4096) × (cols ≤ 4096) ⌝ }
     ensures { λ r. ⌜ r ≡ (lengthsRefused rows cols (now («valid_mask» .entry)) (now (db .entry)) || unlike out (rows * cols) || workRefused strategy work) ⌝ }
 {
@@ -61,7 +76,15 @@ fn grey_lengths_refused(rows: usize, cols: usize, strategy: AutoscaleStrategy, d
 }
 
 // The smallest of the numbers 1 to 3 that applies to a grey call, 0 if none does.
-fn grey_refusal(rows: usize, cols: usize, strategy: AutoscaleStrategy, db: &[f64], valid_mask: &[u8], out: usize, work: usize) -> u8
+fn grey_refusal(
+    rows: usize,
+    cols: usize,
+    strategy: AutoscaleStrategy,
+    db: &[f64],
+    valid_mask: &[u8],
+    out: usize,
+    work: usize,
+) -> u8
     ensures { λ r. ⌜ r ≡ firstOf 1 (
         sidesRefused rows cols ∷ (lengthsRefused rows cols (now («valid_mask» .entry)) (now (db .entry)) || unlike out (rows * cols) || workRefused strategy work)
         ∷ marksRefused (now («valid_mask» .entry)) ∷ []) ⌝ }
@@ -79,7 +102,15 @@ fn grey_refusal(rows: usize, cols: usize, strategy: AutoscaleStrategy, db: &[f64
 }
 
 // The window of a grey call, or the number that refuses the call.
-pub(crate) fn grey_window(rows: usize, cols: usize, strategy: AutoscaleStrategy, db: &[f64], valid_mask: &[u8], out: usize, work: usize) -> WindowAnswer
+pub(crate) fn grey_window(
+    rows: usize,
+    cols: usize,
+    strategy: AutoscaleStrategy,
+    db: &[f64],
+    valid_mask: &[u8],
+    out: usize,
+    work: usize,
+) -> WindowAnswer
     ensures { λ r. ⌜ r ≡ greyWindow strategy rows cols (now («valid_mask» .entry)) (now (db .entry)) out work ⌝ }
 {
     let refusal = grey_refusal(rows, cols, strategy, db, valid_mask, out, work);
@@ -100,7 +131,16 @@ pub(crate) fn grey_window(rows: usize, cols: usize, strategy: AutoscaleStrategy,
 }
 
 // 2 of a picture: whether a lent length is not the one named.
-fn picture_lengths_refused(rows: usize, cols: usize, strategy: AutoscaleStrategy, db1: &[f64], valid_mask1: &[u8], db2: &[f64], valid_mask2: &[u8], lent: Lent) -> bool
+fn picture_lengths_refused(
+    rows: usize,
+    cols: usize,
+    strategy: AutoscaleStrategy,
+    db1: &[f64],
+    valid_mask1: &[u8],
+    db2: &[f64],
+    valid_mask2: &[u8],
+    lent: Lent,
+) -> bool
     requires { ⌜ (rows ≤ 4096) × (cols ≤ 4096) ⌝ }
     ensures { λ r. ⌜ r ≡ pictureLengthsRefused strategy rows cols (now («valid_mask1» .entry)) (now (db1 .entry)) (now («valid_mask2» .entry)) (now (db2 .entry)) lent ⌝ }
 {
@@ -134,7 +174,16 @@ fn either_marks_refused(valid_mask1: &[u8], valid_mask2: &[u8]) -> bool
 }
 
 // The smallest of the numbers 1 to 3 that applies to a picture, 0 if none does.
-fn picture_refusal(rows: usize, cols: usize, strategy: AutoscaleStrategy, db1: &[f64], valid_mask1: &[u8], db2: &[f64], valid_mask2: &[u8], lent: Lent) -> u8
+fn picture_refusal(
+    rows: usize,
+    cols: usize,
+    strategy: AutoscaleStrategy,
+    db1: &[f64],
+    valid_mask1: &[u8],
+    db2: &[f64],
+    valid_mask2: &[u8],
+    lent: Lent,
+) -> u8
     ensures { λ r. ⌜ r ≡ firstOf 1 (
         sidesRefused rows cols
         ∷ pictureLengthsRefused strategy rows cols (now («valid_mask1» .entry)) (now (db1 .entry)) (now («valid_mask2» .entry)) (now (db2 .entry)) lent
@@ -143,7 +192,16 @@ fn picture_refusal(rows: usize, cols: usize, strategy: AutoscaleStrategy, db1: &
     if raster::sides_refused(rows, cols) {
         return 1;
     }
-    if picture_lengths_refused(rows, cols, strategy, db1, valid_mask1, db2, valid_mask2, lent) {
+    if picture_lengths_refused(
+        rows,
+        cols,
+        strategy,
+        db1,
+        valid_mask1,
+        db2,
+        valid_mask2,
+        lent,
+    ) {
         return 2;
     }
     if either_marks_refused(valid_mask1, valid_mask2) {
@@ -153,7 +211,13 @@ fn picture_refusal(rows: usize, cols: usize, strategy: AutoscaleStrategy, db1: &
 }
 
 // 5 of a picture, of bands with these windows.
-fn either_tiles_refused(strategy: AutoscaleStrategy, rows: usize, cols: usize, window1: WindowAnswer, window2: WindowAnswer) -> bool
+fn either_tiles_refused(
+    strategy: AutoscaleStrategy,
+    rows: usize,
+    cols: usize,
+    window1: WindowAnswer,
+    window2: WindowAnswer,
+) -> bool
     requires { ⌜ (rows ≤ 4096) × (cols ≤ 4096) ⌝ }
     ensures { λ r. ⌜ r ≡ (windowTilesRefused strategy rows cols window1 || windowTilesRefused strategy rows cols window2) ⌝ }
 {
@@ -174,10 +238,28 @@ fn either_gamma_refused(window1: WindowAnswer, window2: WindowAnswer) -> bool
 }
 
 // Both windows of a picture, or the number that refuses the call: each number is tested over both bands before the next. Band 1 counts as co-pol.
-pub(crate) fn picture_windows(rows: usize, cols: usize, strategy: AutoscaleStrategy, db1: &[f64], valid_mask1: &[u8], db2: &[f64], valid_mask2: &[u8], lent: Lent) -> PictureWindows
+pub(crate) fn picture_windows(
+    rows: usize,
+    cols: usize,
+    strategy: AutoscaleStrategy,
+    db1: &[f64],
+    valid_mask1: &[u8],
+    db2: &[f64],
+    valid_mask2: &[u8],
+    lent: Lent,
+) -> PictureWindows
     ensures { λ r. ⌜ r ≡ pictureWindows strategy rows cols (now («valid_mask1» .entry)) (now (db1 .entry)) (now («valid_mask2» .entry)) (now (db2 .entry)) lent ⌝ }
 {
-    let refusal = picture_refusal(rows, cols, strategy, db1, valid_mask1, db2, valid_mask2, lent);
+    let refusal = picture_refusal(
+        rows,
+        cols,
+        strategy,
+        db1,
+        valid_mask1,
+        db2,
+        valid_mask2,
+        lent,
+    );
     if refusal != 0 {
         return PictureWindows::Refused(refusal);
     }

@@ -6,7 +6,10 @@ ghost use Rattle.spec.specs.Window as Window;
 ghost use Rattle.quicklook.specs.Calls as Calls;
 ghost use Rattle.quicklook.specs.Numbers.{kept, countOf, floatsOf, blankOf, windowFloats};
 use super::codes;
-use types::{AutoscaleStrategy, HistogramStats, StatisticsAnswer, WindowAnswer};
+use types::AutoscaleStrategy;
+use types::HistogramStats;
+use types::StatisticsAnswer;
+use types::WindowAnswer;
 
 // The record's floats, in its order.
 fn put_statistics(stats: HistogramStats, floats: &mut [f64; 15])
@@ -33,7 +36,14 @@ fn put_statistics(stats: HistogramStats, floats: &mut [f64; 15])
 
 // The count and the fifteen floats of a band.
 #[no_mangle]
-pub extern "C" fn quicklook_statistics(rows: usize, cols: usize, db: &[f64], valid_mask: &[u8], valid_count: &mut u64, floats: &mut [f64; 15]) -> u8
+pub extern "C" fn quicklook_statistics(
+    rows: usize,
+    cols: usize,
+    db: &[f64],
+    valid_mask: &[u8],
+    valid_count: &mut u64,
+    floats: &mut [f64; 15],
+) -> u8
     ensures reply { λ r. ⌜ r ≡ number (Statistics.computeHistogramStats rows cols (now («valid_mask» .entry)) (now (db .entry))) ⌝ }
     ensures count { λ _. ⌜ now («valid_count» .exit) ≡ kept countOf (Statistics.computeHistogramStats rows cols (now («valid_mask» .entry)) (now (db .entry))) (now («valid_count» .entry)) ⌝ }
     ensures floats { λ _. ⌜ now (floats .exit) ≡ after floatsOf (Statistics.computeHistogramStats rows cols (now («valid_mask» .entry)) (now (db .entry))) (now (floats .entry)) ⌝ }
@@ -49,7 +59,15 @@ pub extern "C" fn quicklook_statistics(rows: usize, cols: usize, db: &[f64], val
 }
 
 // A window's floats, or blank and zeros.
-fn put_window(strategy: AutoscaleStrategy, rows: usize, cols: usize, db: &[f64], valid_mask: &[u8], blank: &mut u8, floats: &mut [f64; 4]) -> u8
+fn put_window(
+    strategy: AutoscaleStrategy,
+    rows: usize,
+    cols: usize,
+    db: &[f64],
+    valid_mask: &[u8],
+    blank: &mut u8,
+    floats: &mut [f64; 4],
+) -> u8
     ensures reply { λ r. ⌜ r ≡ number (Window.autoscaleWindow strategy rows cols (now («valid_mask» .entry)) (now (db .entry))) ⌝ }
     ensures blank { λ _. ⌜ now (blank .exit) ≡ kept blankOf (Window.autoscaleWindow strategy rows cols (now («valid_mask» .entry)) (now (db .entry))) (now (blank .entry)) ⌝ }
     ensures floats { λ _. ⌜ now (floats .exit) ≡ after windowFloats (Window.autoscaleWindow strategy rows cols (now («valid_mask» .entry)) (now (db .entry))) (now (floats .entry)) ⌝ }
@@ -76,16 +94,18 @@ fn put_window(strategy: AutoscaleStrategy, rows: usize, cols: usize, db: &[f64],
 
 // The window of a band.
 #[no_mangle]
-pub extern "C" fn quicklook_window(strategy: u8, rows: usize, cols: usize, db: &[f64], valid_mask: &[u8], blank: &mut u8, floats: &mut [f64; 4]) -> u8
-    ensures reply {
-        λ r. ⌜ r ≡ number (Calls.window strategy rows cols (now («valid_mask» .entry)) (now (db .entry))) ⌝
-    }
-    ensures blank {
-        λ _. ⌜ now (blank .exit) ≡ kept blankOf (Calls.window strategy rows cols (now («valid_mask» .entry)) (now (db .entry))) (now (blank .entry)) ⌝
-    }
-    ensures floats {
-        λ _. ⌜ now (floats .exit) ≡ after windowFloats (Calls.window strategy rows cols (now («valid_mask» .entry)) (now (db .entry))) (now (floats .entry)) ⌝
-    }
+pub extern "C" fn quicklook_window(
+    strategy: u8,
+    rows: usize,
+    cols: usize,
+    db: &[f64],
+    valid_mask: &[u8],
+    blank: &mut u8,
+    floats: &mut [f64; 4],
+) -> u8
+    ensures reply { λ r. ⌜ r ≡ number (Calls.window strategy rows cols (now («valid_mask» .entry)) (now (db .entry))) ⌝ }
+    ensures blank { λ _. ⌜ now (blank .exit) ≡ kept blankOf (Calls.window strategy rows cols (now («valid_mask» .entry)) (now (db .entry))) (now (blank .entry)) ⌝ }
+    ensures floats { λ _. ⌜ now (floats .exit) ≡ after windowFloats (Calls.window strategy rows cols (now («valid_mask» .entry)) (now (db .entry))) (now (floats .entry)) ⌝ }
 {
     let codes::StrategyCode::Names(strategy) = codes::strategy_of(strategy) else {
         return 255;

@@ -1,7 +1,8 @@
 // The codes of strategies and modes: their places in the order of types.rs.
 ghost use mathlib.Core.Path.{_≡_};
 ghost use Rattle.quicklook.specs.Codes.{strategyOf, modeOf};
-use types::{AutoscaleStrategy, SyntheticRgbMode};
+use types::AutoscaleStrategy;
+use types::SyntheticRgbMode;
 
 pub enum StrategyCode {
     Names(AutoscaleStrategy),

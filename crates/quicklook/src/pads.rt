@@ -16,7 +16,12 @@ pub extern "C" fn quicklook_pad_u8(rows: usize, cols: usize, data: &[u8], padded
 
 // At 16 bits.
 #[no_mangle]
-pub extern "C" fn quicklook_pad_u16(rows: usize, cols: usize, data: &[u16], padded: &mut [u16]) -> u8
+pub extern "C" fn quicklook_pad_u16(
+    rows: usize,
+    cols: usize,
+    data: &[u16],
+    padded: &mut [u16],
+) -> u8
     ensures reply { λ r. ⌜ r ≡ number (addPaddingToSquare rows cols (now («data» .entry)) (length (now (padded .entry)))) ⌝ }
     ensures square { λ _. ⌜ now (padded .exit) ≡ after (λ l. l) (addPaddingToSquare rows cols (now («data» .entry)) (length (now (padded .entry)))) (now (padded .entry)) ⌝ }
 {

@@ -177,7 +177,12 @@ fn gamma_of(x: f64) {
 
 fn answered(answer: WindowAnswer) {
     match answer {
-        WindowAnswer::Window { low, high, range, gamma } => gamma_of(gamma),
+        WindowAnswer::Window {
+            low,
+            high,
+            range,
+            gamma,
+        } => gamma_of(gamma),
         WindowAnswer::Blank => text(b"blank"),
         WindowAnswer::Refused(k) => refused(k),
     }
@@ -207,7 +212,15 @@ fn grey_u8(line: &[u8], strategy: AutoscaleStrategy, v: f64) {
     let valid_mask = [1u8, 1];
     let mut out = [165u8; 2];
     let mut work = [0.0; 1];
-    let reply = pipeline::autoscale_db_image_to_u8(1, 2, strategy, &db, &valid_mask, &mut out, &mut work);
+    let reply = pipeline::autoscale_db_image_to_u8(
+        1,
+        2,
+        strategy,
+        &db,
+        &valid_mask,
+        &mut out,
+        &mut work,
+    );
     reply_bytes(reply, &out);
 }
 
@@ -217,7 +230,15 @@ fn grey_u16(line: &[u8], strategy: AutoscaleStrategy, v: f64) {
     let valid_mask = [1u8, 1];
     let mut out = [0xa5a5u16; 2];
     let mut work = [0.0; 1];
-    let reply = pipeline::autoscale_db_image_to_u16(1, 2, strategy, &db, &valid_mask, &mut out, &mut work);
+    let reply = pipeline::autoscale_db_image_to_u16(
+        1,
+        2,
+        strategy,
+        &db,
+        &valid_mask,
+        &mut out,
+        &mut work,
+    );
     reply_words(reply, &out);
 }
 
@@ -227,7 +248,15 @@ fn one_grey() {
     let valid_mask = [1u8];
     let mut out = [165u8; 1];
     let mut work = [0.0; 1];
-    let reply = pipeline::autoscale_db_image_to_u8(1, 1, AutoscaleStrategy::Default, &db, &valid_mask, &mut out, &mut work);
+    let reply = pipeline::autoscale_db_image_to_u8(
+        1,
+        1,
+        AutoscaleStrategy::Default,
+        &db,
+        &valid_mask,
+        &mut out,
+        &mut work,
+    );
     reply_bytes(reply, &out);
 }
 
@@ -238,7 +267,15 @@ fn standard_grey(line: &[u8], v: f64) {
     let valid_mask = [1u8, 1];
     let mut out = [165u8; 2];
     let mut work = [0.0; 1];
-    let reply = pipeline::autoscale_db_image_to_u8(1, 2, AutoscaleStrategy::Standard, &db, &valid_mask, &mut out, &mut work);
+    let reply = pipeline::autoscale_db_image_to_u8(
+        1,
+        2,
+        AutoscaleStrategy::Standard,
+        &db,
+        &valid_mask,
+        &mut out,
+        &mut work,
+    );
     reply_only(reply);
 }
 
@@ -249,7 +286,15 @@ fn clahe_grey() {
     let valid_mask = [1u8, 1];
     let mut out = [165u8; 2];
     let mut work = [0.0; 16384];
-    let reply = pipeline::autoscale_db_image_to_u8(1, 2, AutoscaleStrategy::Clahe, &db, &valid_mask, &mut out, &mut work);
+    let reply = pipeline::autoscale_db_image_to_u8(
+        1,
+        2,
+        AutoscaleStrategy::Clahe,
+        &db,
+        &valid_mask,
+        &mut out,
+        &mut work,
+    );
     reply_only(reply);
 }
 
@@ -270,7 +315,13 @@ fn colour(line: &[u8], strategy: AutoscaleStrategy, v1: u8, v2: u8) {
     let band1 = [v1];
     let band2 = [v2];
     let mut out = [165u8; 3];
-    let reply = synthetic_rgb::create_synthetic_rgb_by_mode_and_strategy(SyntheticRgbMode::Default, strategy, &band1, &band2, &mut out);
+    let reply = synthetic_rgb::create_synthetic_rgb_by_mode_and_strategy(
+        SyntheticRgbMode::Default,
+        strategy,
+        &band1,
+        &band2,
+        &mut out,
+    );
     reply_bytes(reply, &out);
 }
 
@@ -280,7 +331,13 @@ fn four() {
     let band = [200u8; 4];
     let mut out = [165u8; 12];
     let mode = SyntheticRgbMode::Default;
-    let reply = synthetic_rgb::create_synthetic_rgb_by_mode_and_strategy(mode, AutoscaleStrategy::Tamed, &band, &band, &mut out);
+    let reply = synthetic_rgb::create_synthetic_rgb_by_mode_and_strategy(
+        mode,
+        AutoscaleStrategy::Tamed,
+        &band,
+        &band,
+        &mut out,
+    );
     reply_bytes(reply, &out);
 }
 
@@ -290,7 +347,13 @@ fn five() {
     let band = [200u8; 5];
     let mut out = [165u8; 15];
     let mode = SyntheticRgbMode::Default;
-    let reply = synthetic_rgb::create_synthetic_rgb_by_mode_and_strategy(mode, AutoscaleStrategy::Tamed, &band, &band, &mut out);
+    let reply = synthetic_rgb::create_synthetic_rgb_by_mode_and_strategy(
+        mode,
+        AutoscaleStrategy::Tamed,
+        &band,
+        &band,
+        &mut out,
+    );
     reply_bytes(reply, &out);
 }
 
@@ -330,9 +393,21 @@ fn statistics() {
 }
 
 fn greys() {
-    grey_u8(b"dB 0, 10, Default, U8 grey: ", AutoscaleStrategy::Default, 10.0);
-    grey_u16(b"0, 0.5, Default, U16 grey: ", AutoscaleStrategy::Default, 0.5);
-    grey_u8(b"0, 0.5, Default, U8 grey: ", AutoscaleStrategy::Default, 0.5);
+    grey_u8(
+        b"dB 0, 10, Default, U8 grey: ",
+        AutoscaleStrategy::Default,
+        10.0,
+    );
+    grey_u16(
+        b"0, 0.5, Default, U16 grey: ",
+        AutoscaleStrategy::Default,
+        0.5,
+    );
+    grey_u8(
+        b"0, 0.5, Default, U8 grey: ",
+        AutoscaleStrategy::Default,
+        0.5,
+    );
     one_grey();
     standard_grey(b"Standard, 0, 14: ", 14.0);
     standard_grey(b"Standard, 0, 15: ", 15.0);
@@ -354,10 +429,30 @@ fn colours() {
     colour(b"Default (255,1): ", AutoscaleStrategy::Default, 255, 1);
     colour(b"Default (1,1): ", AutoscaleStrategy::Default, 1, 1);
     colour(b"Default (0,255): ", AutoscaleStrategy::Default, 0, 255);
-    colour(b"Suppressed, one pixel (255,255): ", AutoscaleStrategy::Tamed, 255, 255);
-    colour(b"Suppressed, one pixel (255,3): ", AutoscaleStrategy::Tamed, 255, 3);
-    colour(b"Suppressed, one pixel (3,255): ", AutoscaleStrategy::Clahe, 3, 255);
-    colour(b"Suppressed, one pixel (4,4): ", AutoscaleStrategy::Clahe, 4, 4);
+    colour(
+        b"Suppressed, one pixel (255,255): ",
+        AutoscaleStrategy::Tamed,
+        255,
+        255,
+    );
+    colour(
+        b"Suppressed, one pixel (255,3): ",
+        AutoscaleStrategy::Tamed,
+        255,
+        3,
+    );
+    colour(
+        b"Suppressed, one pixel (3,255): ",
+        AutoscaleStrategy::Clahe,
+        3,
+        255,
+    );
+    colour(
+        b"Suppressed, one pixel (4,4): ",
+        AutoscaleStrategy::Clahe,
+        4,
+        4,
+    );
     four();
     five();
 }

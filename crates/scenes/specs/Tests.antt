@@ -43,8 +43,8 @@ abbrev pub statAnswer : Answer HistogramStats → List ℕ
 statAnswer (refused k) = k ∷ []
 statAnswer (done s) =
     0 ∷ s .«valid_count» ∷ map (toBits binary64)
-      (s .«min_db» ∷ s .«max_db» ∷ s .«mean_db» ∷ s .«std_db» ∷ s .«median_db» ∷ s .p01 ∷ s .p02 ∷ s .p05 ∷ s .p10 ∷ s .p25
-       ∷ s .p75 ∷ s .p90 ∷ s .p95 ∷ s .p98 ∷ s .p99 ∷ [])
+    (s .«min_db» ∷ s .«max_db» ∷ s .«mean_db» ∷ s .«std_db» ∷ s .«median_db» ∷ s .p01 ∷ s .p02 ∷ s .p05 ∷ s .p10 ∷ s .p25
+    ∷ s .p75 ∷ s .p90 ∷ s .p95 ∷ s .p98 ∷ s .p99 ∷ [])
 
 -- a window as four bit patterns, a blank one as none
 abbrev pub windowBits : Answer (List Float) → List ℕ

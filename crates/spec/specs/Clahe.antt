@@ -101,8 +101,8 @@ unfoldable pub sample : List (List ℕ) → TilePosition → TilePosition → �
 sample tables y x b =
     let at : ℕ → ℕ → Float = λ ty tx. sumAt (getD tables (ty * 8 + tx) []) b in
     blend (y .weight)
-      (blend (x .weight) (at (y .first) (x .first)) (at (y .first) (x .second)))
-      (blend (x .weight) (at (y .second) (x .first)) (at (y .second) (x .second)))
+    (blend (x .weight) (at (y .first) (x .first)) (at (y .first) (x .second)))
+    (blend (x .weight) (at (y .second) (x .first)) (at (y .second) (x .second)))
 
 -- "result held to 0..1, scaled, truncated"; invalid: 0
 unfoldable pub equalised : Float → ℕ → ℕ → List (List ℕ) → ℕ → Pixel → ℕ

@@ -24,7 +24,7 @@ withValue s v =
       «min_db» = cond (first || lt v (s .«min_db»)) v (s .«min_db»);
       «max_db» = cond (first || lt (s .«max_db») v) v (s .«max_db»);
       mean = mean′;
-      m2 = add binary64 (s .m2) (mul binary64 delta delta2)
+      m2 = add binary64 (s .m2) (mul binary64 delta delta2);
     }
 
 unfoldable pub momentsFrom : Moments → List Float → Moments

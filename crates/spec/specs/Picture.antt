@@ -41,7 +41,7 @@ unfoldable pub pictureTests :
 pictureTests strategy rows cols marks1 db1 marks2 db2 lent px1 px2 w1 w2 =
     sidesRefused rows cols
     ∷ (lengthsRefused rows cols marks1 db1 || lengthsRefused rows cols marks2 db2 || unlike (lent .grey1) (rows * cols)
-       || unlike (lent .grey2) (rows * cols) || unlike (lent .rgb) (3 * (rows * cols)) || workRefused strategy (lent .work))
+    || unlike (lent .grey2) (rows * cols) || unlike (lent .rgb) (3 * (rows * cols)) || workRefused strategy (lent .work))
     ∷ (marksRefused marks1 || marksRefused marks2)
     ∷ (decibelsRefused px1 || decibelsRefused px2)
     ∷ (tilesRefused strategy rows cols px1 || tilesRefused strategy rows cols px2)

@@ -41,7 +41,7 @@ gathered s p =
       p90 = p (ofBits binary64 0x3fec_cccc_cccc_cccd) .value;
       p95 = p (ofBits binary64 0x3fee_6666_6666_6666) .value;
       p98 = p (ofBits binary64 0x3fef_5c28_f5c2_8f5c) .value;
-      p99 = p (ofBits binary64 0x3fef_ae14_7ae1_47ae) .value
+      p99 = p (ofBits binary64 0x3fef_ae14_7ae1_47ae) .value;
     }
 
 -- "median, p01 to p25 are min; p75 to p99 are max"

@@ -31,7 +31,7 @@ starred =
       above-floor = refl;
       above-full = refl;
       above-red = refl;
-      above-dark = refl
+      above-dark = refl;
     }
 
 pub unstarred : Unstarred
@@ -43,5 +43,5 @@ unstarred =
       four = refl;
       five = refl;
       pad = refl;
-      marks = refl
+      marks = refl;
     }

@@ -4,8 +4,8 @@ ghost use mathlib.Core.Path.{_≡_};
 ghost use Prim.Native.Nat.{_*_, _≤_, _<_};
 ghost use lib.ListN.{length};
 ghost use Rattle.clahe.specs.Band.{Raster};
-use libc::STDOUT_FILENO;
 use clahe::columns::Column;
+use libc::STDOUT_FILENO;
 use types::Sides;
 use types::TilePosition;
 use types::WindowFloats;
@@ -287,27 +287,83 @@ fn replay_tile(b: &[u8]) -> bool {
 
 // The window of values that are normalised already.
 fn unit_window() -> WindowFloats {
-    WindowFloats { low: 0.0, high: 1.0, range: 1.0, gamma: 1.0 }
+    WindowFloats {
+        low: 0.0,
+        high: 1.0,
+        range: 1.0,
+        gamma: 1.0,
+    }
 }
 
 // Whether a tile of a normalised band has the sums that stand in a list from a place on.
-fn is_tile(b: &[u8], rows: usize, cols: usize, db: &[f64], valid_mask: &[u8], k: usize, expected: List, from: usize) -> bool
+fn is_tile(
+    b: &[u8],
+    rows: usize,
+    cols: usize,
+    db: &[f64],
+    valid_mask: &[u8],
+    k: usize,
+    expected: List,
+    from: usize,
+) -> bool
     requires { ⌜ Raster rows cols (now «valid_mask») (now db) × (from ≤ 768) ⌝ }
 {
     if k >= 64 {
         return false;
     }
     let mut sums = [0.0; 256];
-    clahe::sums::tile_sums(db, valid_mask, Sides { rows, cols }, unit_window(), k, &mut sums);
+    clahe::sums::tile_sums(
+        db,
+        valid_mask,
+        Sides { rows, cols },
+        unit_window(),
+        k,
+        &mut sums,
+    );
     are_bits(b, expected, from, &sums)
 }
 
-fn are_tiles(b: &[u8], rows: usize, cols: usize, db: &[f64], valid_mask: &[u8], tiles: List, expected: List) -> bool
+fn are_tiles(
+    b: &[u8],
+    rows: usize,
+    cols: usize,
+    db: &[f64],
+    valid_mask: &[u8],
+    tiles: List,
+    expected: List,
+) -> bool
     requires { ⌜ Raster rows cols (now «valid_mask») (now db) ⌝ }
 {
-    let first = is_tile(b, rows, cols, db, valid_mask, u32_of(b, tiles, 0) as usize, expected, 0);
-    let second = is_tile(b, rows, cols, db, valid_mask, u32_of(b, tiles, 1) as usize, expected, 256);
-    let third = is_tile(b, rows, cols, db, valid_mask, u32_of(b, tiles, 2) as usize, expected, 512);
+    let first = is_tile(
+        b,
+        rows,
+        cols,
+        db,
+        valid_mask,
+        u32_of(b, tiles, 0) as usize,
+        expected,
+        0,
+    );
+    let second = is_tile(
+        b,
+        rows,
+        cols,
+        db,
+        valid_mask,
+        u32_of(b, tiles, 1) as usize,
+        expected,
+        256,
+    );
+    let third = is_tile(
+        b,
+        rows,
+        cols,
+        db,
+        valid_mask,
+        u32_of(b, tiles, 2) as usize,
+        expected,
+        512,
+    );
     first && second && third && tiles.count == 3 && expected.count == 768
 }
 
@@ -330,18 +386,38 @@ fn equalised(work: &[f64], rows: usize, cols: usize, r: usize, c: usize, u: f64)
     }
     let y = clahe::sampling::tile_position(clahe::tiles::tile_side(rows), r);
     let x = clahe::sampling::tile_position(clahe::tiles::tile_side(cols), c);
-    equalised_at(work, y, Column { first: x.first, weight: x.weight }, u)
+    equalised_at(
+        work,
+        y,
+        Column {
+            first: x.first,
+            weight: x.weight,
+        },
+        u,
+    )
 }
 
 // Invalid pixels are 0.
-fn are_equalised(b: &[u8], work: &[f64], rows: usize, cols: usize, db: &[f64], valid_mask: &[u8], expected: List) -> bool
+fn are_equalised(
+    b: &[u8],
+    work: &[f64],
+    rows: usize,
+    cols: usize,
+    db: &[f64],
+    valid_mask: &[u8],
+    expected: List,
+) -> bool
     requires { ⌜ (length (now work) ≡ 16384) × (rows ≤ 4096) × (cols ≤ 4096) × (0 < cols) ⌝ }
     requires { ⌜ (length (now db) ≤ 4096) × (length (now «valid_mask») ≡ length (now db)) ⌝ }
 {
     let n = db.len();
     let mut i: usize = 0;
     while i < n {
-        let found = if valid_mask[i] == 0 { 0.0 } else { equalised(work, rows, cols, i / cols, i % cols, db[i]) };
+        let found = if valid_mask[i] == 0 {
+            0.0
+        } else {
+            equalised(work, rows, cols, i / cols, i % cols, db[i])
+        };
         if !same_bits_f64(f64_of(b, expected, i), found) {
             return false;
         }
@@ -350,7 +426,14 @@ fn are_equalised(b: &[u8], work: &[f64], rows: usize, cols: usize, db: &[f64], v
     true
 }
 
-fn is_equalised(b: &[u8], rows: usize, cols: usize, db: &[f64], valid_mask: &[u8], expected: List) -> bool
+fn is_equalised(
+    b: &[u8],
+    rows: usize,
+    cols: usize,
+    db: &[f64],
+    valid_mask: &[u8],
+    expected: List,
+) -> bool
     requires { ⌜ Raster rows cols (now «valid_mask») (now db) × (length (now db) ≤ 4096) ⌝ }
 {
     if cols == 0 {
@@ -360,7 +443,13 @@ fn is_equalised(b: &[u8], rows: usize, cols: usize, db: &[f64], valid_mask: &[u8
         return false;
     }
     let mut work = [0.0; 16384];
-    clahe::sums::write_tables(db, valid_mask, Sides { rows, cols }, unit_window(), &mut work);
+    clahe::sums::write_tables(
+        db,
+        valid_mask,
+        Sides { rows, cols },
+        unit_window(),
+        &mut work,
+    );
     are_equalised(b, &work, rows, cols, db, valid_mask, expected)
 }
 
@@ -446,7 +535,11 @@ fn as_signed(x: f64) -> u64 {
 
 // The parts of the engine floor what is not negative only, by truncation.
 fn is_floor(x: f64, found: f64) -> bool {
-    if x >= 0.0 { numeric::f64_as_u64(x) == numeric::f64_as_u64(found) } else { true }
+    if x >= 0.0 {
+        numeric::f64_as_u64(x) == numeric::f64_as_u64(found)
+    } else {
+        true
+    }
 }
 
 // A step from an f64 to an f64.
@@ -498,7 +591,8 @@ fn is_step(b: &[u8], xs: List, ys: List, results: List, i: usize) -> bool
         34 | 37 => same_bits_f32(f32_of(b, results, i), step_f32(op, f32_of(b, xs, i))),
         35 => is_floor(f64_of(b, xs, i), f64_of(b, results, i)),
         38 | 39 | 40 => f64_of(b, results, i) == step_two(b, op, f64_of(b, xs, i), ys, i),
-        41 => least(numeric::round_f32_as_u64(f32_of(b, xs, i)), 255) == numeric::round_f32_as_u64(f32_of(b, results, i)),
+        41 => least(numeric::round_f32_as_u64(f32_of(b, xs, i)), 255)
+            == numeric::round_f32_as_u64(f32_of(b, results, i)),
         53 => least(numeric::f32_as_u64(f32_of(b, xs, i)), 255) == whole_of(b, results, i),
         55 => least(numeric::round_f32_as_u64(f32_of(b, xs, i)), 255) == whole_of(b, results, i),
         48 | 49 | 50 | 51 | 52 | 54 => is_whole(op, f64_of(b, xs, i), whole_of(b, results, i)),
@@ -528,7 +622,9 @@ fn replay_steps(b: &[u8]) -> bool {
     if op >= 38 {
         if op <= 41 {
             let results = list_after(b, ys);
-            return xs.count == results.count && is_last(b, results) && are_steps(b, xs, ys, results);
+            return xs.count == results.count
+                && is_last(b, results)
+                && are_steps(b, xs, ys, results);
         }
     }
     xs.count == ys.count && is_last(b, ys) && are_steps(b, xs, ys, ys)
@@ -580,7 +676,11 @@ fn replay_next(fd: i32) -> Outcome {
     if read_record(fd, &mut buffer, n) < n {
         return Outcome::Differs;
     }
-    if agrees(&buffer[..n]) { Outcome::Same } else { Outcome::Differs }
+    if agrees(&buffer[..n]) {
+        Outcome::Same
+    } else {
+        Outcome::Differs
+    }
 }
 
 struct Tally {
@@ -611,7 +711,10 @@ fn is_end(outcome: Outcome) -> bool {
 
 // A proved loop has to end, and nothing says that a file does: the loop counts its turns down.
 fn replay_file(fd: i32) -> Tally {
-    let mut tally = Tally { records: 0, differ: 0 };
+    let mut tally = Tally {
+        records: 0,
+        differ: 0,
+    };
     let mut turns: u64 = 1000000;
     while turns > 0 {
         let outcome = replay_next(fd);

@@ -25,9 +25,10 @@ values-u16-requires : tie.Need-values-u16-requires
 values-u16-requires c κs =
     let at-match = c .before .before in
     let at-window = at-match .before in
-    let a = at-window .before .before .before .before .before .args in
-    (grey-asks (a .strategy) (a .rows) (a .cols) (now (a .valid-mask)) (now (a .db)) (now (a .out)) (now (a .work)) (λ v. []) _ (at-window .grey-window .ensures) (at-match .match .keys2),
-    grey-opens (a .strategy) (a .rows) (a .cols) (now (a .valid-mask)) (now (a .db)) (now (a .out)) (now (a .work)) (λ v. []) _ (at-window .grey-window .ensures) (at-match .match .keys2))
+    let a = at-window .before .before .before .before .before .args in (
+      grey-asks (a .strategy) (a .rows) (a .cols) (now (a .valid-mask)) (now (a .db)) (now (a .out)) (now (a .work)) (λ v. []) _ (at-window .grey-window .ensures) (at-match .match .keys2),
+      grey-opens (a .strategy) (a .rows) (a .cols) (now (a .valid-mask)) (now (a .db)) (now (a .out)) (now (a .work)) (λ v. []) _ (at-window .grey-window .ensures) (at-match .match .keys2),
+    )
 
 returns-2 : tie.Need-returns-2
 unfolding autoscaleDbImageToU16 replyNumber

@@ -26,9 +26,10 @@ greys-u8-requires : tie.Need-greys-u8-requires
 greys-u8-requires c κs =
     let at-match = c .before .before in
     let at-window = at-match .before in
-    let a = at-window .before .before .before .before .before .args in
-    (grey-asks (a .strategy) (a .rows) (a .cols) (now (a .valid-mask)) (now (a .db)) (now (a .out)) (now (a .work)) (λ v. []) _ (at-window .grey-window .ensures) (at-match .match .keys2),
-    grey-opens (a .strategy) (a .rows) (a .cols) (now (a .valid-mask)) (now (a .db)) (now (a .out)) (now (a .work)) (λ v. []) _ (at-window .grey-window .ensures) (at-match .match .keys2))
+    let a = at-window .before .before .before .before .before .args in (
+      grey-asks (a .strategy) (a .rows) (a .cols) (now (a .valid-mask)) (now (a .db)) (now (a .out)) (now (a .work)) (λ v. []) _ (at-window .grey-window .ensures) (at-match .match .keys2),
+      grey-opens (a .strategy) (a .rows) (a .cols) (now (a .valid-mask)) (now (a .db)) (now (a .out)) (now (a .work)) (λ v. []) _ (at-window .grey-window .ensures) (at-match .match .keys2),
+    )
 
 returns-2 : tie.Need-returns-2
 unfolding autoscaleDbImageToU8 replyNumber

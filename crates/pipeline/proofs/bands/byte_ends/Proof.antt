@@ -25,9 +25,11 @@ cast-x c = omega (arith, c .shared-slice-known2 .given (c .before .before .loop 
 loop-again : tie.Need-loop-again Inv-loop μ-loop
 loop-again c =
     let l = c .before .before .before .before in
-    let xs = now (l .before .before .args .bytes) in
-    (omega arith, rw (c .before .min-u16 .ensures) (lowest-more (l .loop .lo) (lowest 65535 xs) xs (l .loop .i) (omega arith) (l .loop .inv .1)),
-    rw (c .max-u16 .ensures) (highest-more (l .loop .hi) (highest 0 xs) xs (l .loop .i) (omega arith) (l .loop .inv .2)))
+    let xs = now (l .before .before .args .bytes) in (
+      omega arith,
+      rw (c .before .min-u16 .ensures) (lowest-more (l .loop .lo) (lowest 65535 xs) xs (l .loop .i) (omega arith) (l .loop .inv .1)),
+      rw (c .max-u16 .ensures) (highest-more (l .loop .hi) (highest 0 xs) xs (l .loop .i) (omega arith) (l .loop .inv .2)),
+    )
 
 returns : tie.Need-returns Inv-loop μ-loop
 unfolding lowest highest

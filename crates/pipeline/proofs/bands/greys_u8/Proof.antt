@@ -27,9 +27,10 @@ returns c =
     let a = at-then .before .before .before .before .before .before .args in
     let px = pixels (now (a .valid-mask)) (now (a .db)) in
     let b = sym (at-then .before .is-clahe .ensures) ∙ at-then .if1 .taken in
-    let l = at-tiled .tiled-greys-u8 in
-    (l .ensures ∙ ap (λ (s : AutoscaleStrategy). stretch (values full8 s (a .sides .rows) (a .sides .cols) px (a .window))) (clahe-only (a .strategy) b),
-    record { size = l .kept .1 .1 .1 .1 .1 .0; same = λ e. absurd (true≢false (sym b ∙ e)) })
+    let l = at-tiled .tiled-greys-u8 in (
+      l .ensures ∙ ap (λ (s : AutoscaleStrategy). stretch (values full8 s (a .sides .rows) (a .sides .cols) px (a .window))) (clahe-only (a .strategy) b),
+      record { size = l .kept .1 .1 .1 .1 .1 .0; same = λ e. absurd (true≢false (sym b ∙ e)) },
+    )
 
 plain-greys-u8-requires : tie.Need-plain-greys-u8-requires
 plain-greys-u8-requires c κs = let p = c .before .before .before .before .before .before .before .pre in (ready-lengths (p .0) .0, (ready-lengths (p .0) .1, p .1))

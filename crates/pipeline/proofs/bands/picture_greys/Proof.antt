@@ -17,19 +17,21 @@ returns : tie.Need-returns
 returns c =
     let at-tamed = c .before .before in
     let at-then = at-tamed .before .before in
-    let a = at-then .before .before .before .before .before .before .args in
-    (at-tamed .autoscale-db-image-tamed-synrgb-u8 .ensures
-      ∙ greys-tamed (a .strategy) (a .sides .rows) (a .sides .cols) (pixels (now (a .valid-mask)) (now (a .db))) (a .window) (sym (at-then .before .is-tamed .ensures) ∙ at-then .if1 .taken),
-    record { size = refl; same = λ _. refl })
+    let a = at-then .before .before .before .before .before .before .args in (
+      at-tamed .autoscale-db-image-tamed-synrgb-u8 .ensures
+          ∙ greys-tamed (a .strategy) (a .sides .rows) (a .sides .cols) (pixels (now (a .valid-mask)) (now (a .db))) (a .window) (sym (at-then .before .is-tamed .ensures) ∙ at-then .if1 .taken),
+      record { size = refl; same = λ _. refl },
+    )
 
 returns-2 : tie.Need-returns-2
 returns-2 c =
     let at-greys = c .before .before .before .before in
     let at-else = at-greys .before .before .before in
-    let a = at-else .before .before .before .before .before .before .args in
-    (at-greys .greys-u8 .ensures .0
-      ∙ greys-stretched (a .strategy) (a .sides .rows) (a .sides .cols) (pixels (now (a .valid-mask)) (now (a .db))) (a .window) (sym (at-else .before .is-tamed .ensures) ∙ at-else .if1 .left),
-    at-greys .greys-u8 .ensures .1)
+    let a = at-else .before .before .before .before .before .before .args in (
+      at-greys .greys-u8 .ensures .0
+          ∙ greys-stretched (a .strategy) (a .sides .rows) (a .sides .cols) (pixels (now (a .valid-mask)) (now (a .db))) (a .window) (sym (at-else .before .is-tamed .ensures) ∙ at-else .if1 .left),
+      at-greys .greys-u8 .ensures .1,
+    )
 
 pub picture-greys-spec : {M : Type 1} → statement M
 picture-greys-spec =

@@ -26,9 +26,10 @@ returns c =
     let a = at-then .before .before .before .before .before .before .args in
     let px = pixels (now (a .valid-mask)) (now (a .db)) in
     let b = sym (at-then .before .is-clahe .ensures) ∙ at-then .if1 .taken in
-    let l = at-tiled .tiled-values-u16 in
-    (l .ensures ∙ ap (λ (s : AutoscaleStrategy). values full16 s (a .sides .rows) (a .sides .cols) px (a .window)) (clahe-only (a .strategy) b),
-    record { size = l .kept .1 .1 .1 .1 .1 .0; same = λ e. absurd (true≢false (sym b ∙ e)) })
+    let l = at-tiled .tiled-values-u16 in (
+      l .ensures ∙ ap (λ (s : AutoscaleStrategy). values full16 s (a .sides .rows) (a .sides .cols) px (a .window)) (clahe-only (a .strategy) b),
+      record { size = l .kept .1 .1 .1 .1 .1 .0; same = λ e. absurd (true≢false (sym b ∙ e)) },
+    )
 
 plain-values-u16-requires : tie.Need-plain-values-u16-requires
 plain-values-u16-requires c κs = let p = c .before .before .before .before .before .before .before .pre in (ready-lengths (p .0) .0, (ready-lengths (p .0) .1, p .1))

@@ -48,8 +48,13 @@ returns-5 c =
     let g1 = g2 .before .before in
     let a = g1 .before .before in
     let b = a .before .before in
-    rw (sym (b .before .lengths-refused .ensures) ∙ b .if1 .left, sym (a .before .lengths-refused2 .ensures) ∙ a .if2 .left, eq-eqb _ _ (g1 .if3 .left), eq-eqb _ _ (g2 .if4 .left),
-      ne-eqb _ _ (c .if5 .taken))
+    rw (
+      sym (b .before .lengths-refused .ensures) ∙ b .if1 .left,
+      sym (a .before .lengths-refused2 .ensures) ∙ a .if2 .left,
+      eq-eqb _ _ (g1 .if3 .left),
+      eq-eqb _ _ (g2 .if4 .left),
+      ne-eqb _ _ (c .if5 .taken),
+    )
 
 returns-6 : tie.Need-returns-6
 unfolding unlike
@@ -59,8 +64,13 @@ returns-6 c =
     let g1 = g2 .before .before in
     let a = g1 .before .before in
     let b = a .before .before in
-    rw (sym (b .before .lengths-refused .ensures) ∙ b .if1 .left, sym (a .before .lengths-refused2 .ensures) ∙ a .if2 .left, eq-eqb _ _ (g1 .if3 .left), eq-eqb _ _ (g2 .if4 .left),
-      eq-eqb _ _ (r .if5 .left)) (c .work-refused .ensures)
+    rw (
+      sym (b .before .lengths-refused .ensures) ∙ b .if1 .left,
+      sym (a .before .lengths-refused2 .ensures) ∙ a .if2 .left,
+      eq-eqb _ _ (g1 .if3 .left),
+      eq-eqb _ _ (g2 .if4 .left),
+      eq-eqb _ _ (r .if5 .left),
+    ) (c .work-refused .ensures)
 
 pub picture-lengths-refused-spec : {M : Type 1} → statement M
 picture-lengths-refused-spec =
