@@ -2,4 +2,3 @@ pub mod Painting
 pub mod Answers
 pub mod Unread
 pub mod Windows
-pub mod Limits

@@ -5,6 +5,3 @@ pub mod Summaries
 pub mod Statistics
 pub mod Counting
 pub mod Extremes
-pub mod Units
-pub mod Welford
-pub mod Bounds

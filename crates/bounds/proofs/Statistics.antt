@@ -3,7 +3,7 @@ use mathlib.Core.Path.{_≡_, refl, sym, ap, _∙_, subst}
 use mathlib.Core.Logic.{inl}
 use mathlib.Core.Bool.{Bool, true, false, not, cond, _&&_}
 use mathlib.Core.List.{List, [], _∷_, map, zipWith}
-use Prim.Native.Nat.{ℕ, zero, suc, _+_, _-_, _*_, _^_, _≤_, _<_, zero-le}
+use Prim.Native.Nat.{ℕ, zero, suc, _+_, _-_, _*_, _^_, _≤_, _<_, zero-le, suc-le-suc}
 use native.Mathlib.Nat.{le-trans, le-of-eq, lt-of-lt-of-le, lt-of-not-le, not-le-of-lt, mul-assoc, mul-comm, mul-left-comm, zero-mul, mul-pos, mul-le-mul, mul-le-mul-right, le-of-mul-le-mul-right, suc-mul, mul-mul-mul-comm, le-of-lt}
 use native.Mathlib.Omega.{arith}
 use native.Mathlib.Decide.{decLe}
@@ -38,9 +38,11 @@ use Rattle.numeric.proofs.Picks.{either}
 use Rattle.numeric.proofs.Values.{value-finite, value-plus, value-less, count-value, nothing-less}
 use Rattle.numeric.proofs.Within.{Within, within-lit, within-weaken, whole-within, rounds-within, add-within, sub-within, mul-within}
 use Rattle.raster.proofs.Bands.{or-false}
-use Rattle.histogram.proofs.Units.{units, zero-units, zero-more, zero-fewer, le-units, add-over, div-over, count-positive, count-num}
-use Rattle.histogram.proofs.Welford.{Sound, Decibel, Each, product-over, sound-moments}
-use Rattle.histogram.proofs.Counting.{First, target-first, bins-sum, histogram-length, none-count}
+use Rattle.bounds.specs.Bounds.{Accepted, Percentiles}
+use Rattle.bounds.proofs.Units.{units, zero-units, zero-more, zero-fewer, le-units, add-over, div-over, count-positive, count-num}
+use Rattle.bounds.proofs.Moments.{Sound, Decibel, Each, product-over, sound-moments}
+use Rattle.histogram.proofs.Counting.{none-count}
+use Rattle.bounds.proofs.Bins.{First, target-first, bins-sum, histogram-length}
 
 -- ---- the deviation
 
@@ -283,20 +285,6 @@ module _ (s : Moments) (o : Sound s) where
 
 -- ---- the record
 
--- what holds of each of the eleven percentiles
-pub record Percentiles (P : Float → Type 0) (r : HistogramStats) : Type 0 where
-  pub median : P (r .«median_db»)
-  pub p01 : P (r .p01)
-  pub p02 : P (r .p02)
-  pub p05 : P (r .p05)
-  pub p10 : P (r .p10)
-  pub p25 : P (r .p25)
-  pub p75 : P (r .p75)
-  pub p90 : P (r .p90)
-  pub p95 : P (r .p95)
-  pub p98 : P (r .p98)
-  pub p99 : P (r .p99)
-
 pub record Bounded (r : HistogramStats) : Type 0 where
   pub least : Within 1000 (r .«min_db»)
   pub greatest : Within 1000 (r .«max_db»)
@@ -374,14 +362,14 @@ good-decibel : (v : Float) → T (fits binary64 v) → decibelRefused (on v) ≡
 unfolding decibelRefused
 good-decibel v f e = let p = both (le minus-thousand v) (le v thousand) e in record { fit = f; low = p .0; high = p .1 }
 
-pub valid-decibels : (m : List ℕ) (d : List Float) → Each (λ v. T (fits binary64 v)) d → decibelsRefused (pixels m d) ≡ false → Each Decibel (validOf (pixels m d))
+valid-decibels : (m : List ℕ) (d : List Float) → ((i : ℕ) → i < length d → T (fits binary64 (getD d i nan))) → decibelsRefused (pixels m d) ≡ false → Each Decibel (validOf (pixels m d))
 unfolding pixels pixel zipWith validOf decibelsRefused any
 valid-decibels [] d f e = tt
 valid-decibels (k ∷ m) [] f e = tt
-valid-decibels (zero ∷ m) (v ∷ d) f e = valid-decibels m d (f .1) (or-false (decibelRefused off) (any decibelRefused (pixels m d)) e .1)
+valid-decibels (zero ∷ m) (v ∷ d) f e = valid-decibels m d (λ i l. f (suc i) (suc-le-suc l)) (or-false (decibelRefused off) (any decibelRefused (pixels m d)) e .1)
 valid-decibels (suc k ∷ m) (v ∷ d) f e =
     let p = or-false (decibelRefused (on v)) (any decibelRefused (pixels m d)) e in
-    (good-decibel v (f .0) (p .0), valid-decibels m d (f .1) (p .1))
+    (good-decibel v (f 0 (suc-le-suc zero-le)) (p .0), valid-decibels m d (λ i l. f (suc i) (suc-le-suc l)) (p .1))
 
 valid-few : (m : List ℕ) (d : List Float) → length (validOf (pixels m d)) ≤ length d
 unfolding pixels pixel zipWith validOf
@@ -390,11 +378,17 @@ valid-few (k ∷ m) [] = zero-le
 valid-few (zero ∷ m) (v ∷ d) = omega (arith, valid-few m d)
 valid-few (suc k ∷ m) (v ∷ d) = omega (arith, valid-few m d)
 
-module _ (m : List ℕ) (d : List Float) (l : length d ≤ 16777216) (f : Each (λ v. T (fits binary64 v)) d) (e : decibelsRefused (pixels m d) ≡ false) where
-  pub statistics-bounded : Bounded (statisticsOf (pixels m d))
-  unfolding statisticsOf
-  statistics-bounded = stats-bounded (validOf (pixels m d)) (omega (arith, valid-few m d)) (valid-decibels m d f e)
+module _ (m : List ℕ) (d : List Float) (a : Accepted m d) where
+  few-valid : length (validOf (pixels m d)) ≤ 16777216
+  few-valid = omega (arith, valid-few m d, a .few)
 
-  pub statistics-least : Percentiles (λ x. T (le (statisticsOf (pixels m d) .«min_db») x)) (statisticsOf (pixels m d))
+  good : Each Decibel (validOf (pixels m d))
+  good = valid-decibels m d (a .are-f64) (a .not-refused)
+
+  pub accepted-bounded : Bounded (statisticsOf (pixels m d))
   unfolding statisticsOf
-  statistics-least = stats-least (validOf (pixels m d)) (omega (arith, valid-few m d)) (valid-decibels m d f e)
+  accepted-bounded = stats-bounded (validOf (pixels m d)) few-valid good
+
+  pub accepted-least : Percentiles (λ x. T (le (statisticsOf (pixels m d) .«min_db») x)) (statisticsOf (pixels m d))
+  unfolding statisticsOf
+  accepted-least = stats-least (validOf (pixels m d)) few-valid good

@@ -25,7 +25,7 @@ use Rattle.numeric.proofs.Picks.{either}
 use Rattle.numeric.proofs.Facts.{thousand, minus-thousand}
 use Rattle.numeric.proofs.Values.{count-value, value-finite, nothing-less}
 use Rattle.numeric.proofs.Within.{Within, within-lit, neg-within, le-within, within-le, within-ge, add-within, sub-within, mul-within, div-one-within, whole-within}
-use Rattle.histogram.proofs.Units.{grains, grains-few, own-rounds, Units, units, neg-units, le-units, add-under, add-over, sub-under, sub-over, div-under, div-over, half-of, zero-units, zero-more, zero-fewer}
+use Rattle.bounds.proofs.Units.{grains, grains-few, own-rounds, Units, units, neg-units, le-units, add-under, add-over, sub-under, sub-over, div-under, div-over, half-of, zero-units, zero-more, zero-fewer}
 
 -- ---- bounds in units
 

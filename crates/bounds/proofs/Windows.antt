@@ -2,8 +2,6 @@
 use mathlib.Core.Path.{_≡_}
 use mathlib.Core.Bool.{Bool, true, false, cond}
 use Prim.Native.Nat.{ℕ, _^_, _≤_}
-use mathlib.Core.List.{List}
-use lib.ListN.{length}
 use lib.Dec.{T, eqb, lit≤}
 use lib.Ieee.{Float, binary64, add, sub, mul, div, lt, le, ofBits, fits}
 use Rattle.types.specs.declared.AutoscaleStrategy.{AutoscaleStrategy}
@@ -15,11 +13,7 @@ use Rattle.spec.specs.Window.{between, validRange, lowContrastClip, outlier, he
 use Rattle.types.specs.declared.WindowAnswer.{WindowAnswer}
 use Rattle.types.specs.declared.WindowAnswer.the-variants.{Window, Blank, Refused}
 use Rattle.spec.specs.Strategies.{isTamed}
-use Rattle.spec.specs.Pixels.{pixels}
-use Rattle.spec.specs.Refusals.{decibelsRefused}
-use Rattle.spec.specs.Statistics.{statisticsOf}
-use Rattle.histogram.proofs.Bounds.{Bounded, statistics-bounded}
-use Rattle.histogram.proofs.Welford.{Each}
+use Rattle.bounds.proofs.Statistics.{Bounded}
 use Rattle.numeric.proofs.Order.{Number}
 use Rattle.numeric.proofs.Picks.{above-max}
 use Rattle.numeric.proofs.Within.{Within, within-lit, within-weaken, add-within, sub-within, mul-within, div-one-within, maxFloat-within, minFloat-within}
@@ -160,11 +154,11 @@ module _ (s : HistogramStats) (b : Bounded s) where
 
 -- ---- the windows
 
--- low and high are within 100,000, range is within 200,000 and at least 1
+-- low, high and range are within 100,000, and range is at least 1
 pub record WindowLimits (low high range : Float) : Type 0 where
   pub low-finite : Within 100000 low
   pub high-finite : Within 100000 high
-  pub range-finite : Within 200000 range
+  pub range-finite : Within 100000 range
   pub range-one : T (le one64 range)
 
 -- of every window; a blank one and a refusal have no floats
@@ -206,11 +200,3 @@ unfolding pictureWindow
 picture-limits strategy copol s b =
     let c = cond (isTamed strategy) (tamedClip copol s) (chooseClip strategy s) in
     blank-or (eqb (s .«valid_count») 0) (opened c) (limited-window c (either 35672 (isTamed strategy) _ _ (tamedClip-limited s b copol) (chooseClip-limited s b strategy)))
-
--- ---- an accepted band: at most 16,777,216 f64s, the valid ones within 1,000
-module _ (m : List ℕ) (d : List Float) (l : length d ≤ 16777216) (f : Each (λ v. T (fits binary64 v)) d) (e : decibelsRefused (pixels m d) ≡ false) where
-  pub accepted-window : (strategy : AutoscaleStrategy) → Limits (windowOf strategy (statisticsOf (pixels m d)))
-  accepted-window strategy = window-limits strategy (statisticsOf (pixels m d)) (statistics-bounded m d l f e)
-
-  pub accepted-picture-window : (strategy : AutoscaleStrategy) (copol : Bool) → Limits (pictureWindow strategy copol (statisticsOf (pixels m d)))
-  accepted-picture-window strategy copol = picture-limits strategy copol (statisticsOf (pixels m d)) (statistics-bounded m d l f e)

@@ -1,0 +1,6 @@
+pub mod Units
+pub mod Moments
+pub mod Bins
+pub mod Statistics
+pub mod Windows
+pub mod Bounded
