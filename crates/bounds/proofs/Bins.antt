@@ -59,7 +59,7 @@ findBin-from t before b (h ∷ h′ ∷ hs) l g =
         let k = f (n refl) in
         record { place = suc (k .place); is = omega (arith, k .is); inside = omega (arith, k .inside); size-is = k .size-is; rank-is = omega (arith, k .rank-is); rank-below = k .rank-below }
 
-pub findBin-first : (t : ℕ) (hist : List ℕ) → t < sumOf hist → First t hist (findBin t 0 0 hist)
+findBin-first : (t : ℕ) (hist : List ℕ) → t < sumOf hist → First t hist (findBin t 0 0 hist)
 findBin-first t hist g =
     let f = findBin-from t 0 0 hist (omega arith) (omega arith) in
     let e : findBin t 0 0 hist .bin ≡ f .place = omega (arith, f .is) in

@@ -63,9 +63,6 @@ module _ (mean v : Float) (n : ℕ) (h : 0 < n) (l : n ≤ 2 ^ 53) (wm : Within 
   part-within : Within 2000 (part mean v n)
   part-within = div-one-within binary64 2000 (lit< tt) (delta mean v n) (ofCount n) delta-within (value-finite (ofCount n) n 1 (count-value n l)) (one-le n h l)
 
-  next-finite : T (finite (next mean v n))
-  next-finite = add-within binary64 1000 2000 (lit< tt) mean (part mean v n) wm part-within .is-finite
-
   abbrev D : Units (delta mean v n)
   D = units (delta mean v n) (delta-within .is-finite) (sub-fits binary64 v mean)
 
@@ -81,7 +78,7 @@ module _ (mean v : Float) (n : ℕ) (h : 0 < n) (l : n ≤ 2 ^ 53) (wm : Within 
 
     module _ (two : 2 ≤ n) where
       -- what is above both stays above
-      pub mean-under : T (le mean U) → T (le v U) → T (le (next mean v n) U)
+      mean-under : T (le mean U) → T (le v U) → T (le (next mean v n) U)
       mean-under p q =
           let a = le-units mean U M W p in
           let b = le-units v U N W q in
@@ -97,7 +94,7 @@ module _ (mean v : Float) (n : ℕ) (h : 0 < n) (l : n ≤ 2 ^ 53) (wm : Within 
           add-under mean (part mean v n) U M X W (omega (arith, x, d .once-more, d .once-fewer, z .low, a))
 
       -- what is below both stays below
-      pub mean-over : T (le U mean) → T (le U v) → T (le U (next mean v n))
+      mean-over : T (le U mean) → T (le U v) → T (le U (next mean v n))
       unfolding neg-units
       mean-over p q =
           let a = le-units U mean W M p in
@@ -192,7 +189,7 @@ thousand-is : thousand ≡ ofCount 1000
 unfolding ofBits ofInt round
 thousand-is = refl
 
-pub decibel-within : (v : Float) → Decibel v → Within 1000 v
+decibel-within : (v : Float) → Decibel v → Within 1000 v
 decibel-within v d =
     le-within binary64 1000 (lit< tt) v (subst (λ (z : Float). T (le (neg z) v)) thousand-is (d .low)) (subst (λ (z : Float). T (le v z)) thousand-is (d .high))
 
@@ -201,7 +198,6 @@ decibel-within v d =
 pub record Sound (s : Moments) : Type 0 where
   pub least-fit : T (fits binary64 (s .«min_db»))
   pub least-within : Within 1000 (s .«min_db»)
-  pub greatest-fit : T (fits binary64 (s .«max_db»))
   pub greatest-within : Within 1000 (s .«max_db»)
   pub mean-fit : T (fits binary64 (s .mean))
   pub mean-within : Within 1000 (s .mean)
@@ -211,13 +207,12 @@ pub record Sound (s : Moments) : Type 0 where
   pub ordered : T (le (s .«min_db») (s .«max_db»))
   pub start : s .count ≡ 0 → s .mean ≡ zero64
 
-pub sound-none : Sound noMoments
+sound-none : Sound noMoments
 unfolding noMoments ofBits fits le
 sound-none =
     record {
       least-fit = tt;
       least-within = within-lit 1000 zero64 tt;
-      greatest-fit = tt;
       greatest-within = within-lit 1000 zero64 tt;
       mean-fit = tt;
       mean-within = within-lit 1000 zero64 tt;
@@ -342,14 +337,13 @@ module _ (s : Moments) (v : Float) (few : s .count + 1 ≤ 16777216) (o : Sound 
       go false false true h k r = h tt
       go false false false h k r = o .ordered
 
-  pub sound-step : Sound (withValue s v)
+  sound-step : Sound (withValue s v)
   unfolding withValue
   sound-step =
       let first = eqb (s .count) 0 in
       record {
         least-fit = cond-fits binary64 (first || lt v (s .«min_db»)) v (s .«min_db») (d .fit) (o .least-fit);
         least-within = either (Within 1000) (first || lt v (s .«min_db»)) v (s .«min_db») v-within (o .least-within);
-        greatest-fit = cond-fits binary64 (first || lt (s .«max_db») v) v (s .«max_db») (d .fit) (o .greatest-fit);
         greatest-within = either (Within 1000) (first || lt (s .«max_db») v) v (s .«max_db») v-within (o .greatest-within);
         mean-fit = add-fits binary64 (s .mean) (part (s .mean) v n);
         mean-within = land .within;

@@ -1,21 +1,22 @@
 -- Bounds on every field of the record for dB from -1000 to 1000, and that no percentile lies below the least. Assumes nothing.
 use mathlib.Core.Path.{_≡_, refl, sym, ap, _∙_, subst}
-use mathlib.Core.Logic.{inl}
+use mathlib.Core.Logic.{inl, ⊎-elim}
 use mathlib.Core.Bool.{Bool, true, false, not, cond, _&&_}
 use mathlib.Core.List.{List, [], _∷_, map, zipWith}
 use Prim.Native.Nat.{ℕ, zero, suc, _+_, _-_, _*_, _^_, _≤_, _<_, zero-le, suc-le-suc}
-use native.Mathlib.Nat.{le-trans, le-of-eq, lt-of-lt-of-le, lt-of-not-le, not-le-of-lt, mul-assoc, mul-comm, mul-left-comm, zero-mul, mul-pos, mul-le-mul, mul-le-mul-right, le-of-mul-le-mul-right, suc-mul, mul-mul-mul-comm, le-of-lt}
+use native.Mathlib.Nat.{le-trans, le-of-eq, lt-of-lt-of-le, lt-of-not-le, not-le-of-lt, mul-assoc, mul-comm, mul-left-comm, zero-mul, mul-zero, mul-pos, mul-le-mul, mul-le-mul-right, le-of-mul-le-mul-right, suc-mul, mul-mul-mul-comm, le-of-lt}
 use native.Mathlib.Omega.{arith}
 use native.Mathlib.Decide.{decLe}
 use borrow.Author.Tests.{ltb-true}
 use lib.IntN.{pos}
-use lib.Dec.{T, ltb, lit<, lt→ltb}
+use lib.Dec.{T, ltb, lit<, lit≤, lt→ltb}
 use lib.Pow.{pow-add, pow-pos, pow-mono}
 use lib.ListN.{length, getD}
 use lib.Ieee.{Float, nan, inf, fin, binary64, up, add, sub, mul, div, le, lt, fits, round, ofInt, ofBits}
 use lib.Ieee.Fits.{add-fits, sub-fits, mul-fits, div-fits, ofInt-fits, up-pos}
 use lib.Ieee.Order.{le-of-values}
 use lib.Ieee.Positive.{num, den, den-pos}
+use lib.Ieee.Scale.{finite}
 use Rattle.types.specs.declared.BinRank.{BinRank}
 use Rattle.types.specs.declared.Percentile.{Percentile}
 use Rattle.types.specs.declared.HistogramStats.{HistogramStats}
@@ -32,11 +33,12 @@ use Rattle.spec.specs.Refusals.{decibelRefused, decibelsRefused}
 use Rattle.numeric.proofs.Facts.{thousand, minus-thousand}
 use Rattle.numeric.specs.Correct.{NearestRoot}
 use Rattle.numeric.proofs.Correct.{root-nearest}
-use Rattle.numeric.proofs.Order.{plus, less, number-of-finite, le-refl, le-trans as le-trans'}
-use Rattle.numeric.proofs.Ops.{div-rounds, num-pos, sub-nonneg}
-use Rattle.numeric.proofs.Picks.{either}
+use Rattle.numeric.proofs.Order.{plus, less, le→cross, number-of-finite, le-refl, le-total, le-trans as le-trans'}
+use Rattle.numeric.proofs.Round.{Rounds, rounds-le}
+use Rattle.numeric.proofs.Ops.{div-rounds, num-pos, sub-nonneg, add-le-both, sub-le-both, div-le}
+use Rattle.numeric.proofs.Picks.{either, count-le}
 use Rattle.numeric.proofs.Values.{value-finite, value-plus, value-less, count-value, nothing-less}
-use Rattle.numeric.proofs.Within.{Within, within-lit, within-weaken, whole-within, rounds-within, add-within, sub-within, mul-within}
+use Rattle.numeric.proofs.Within.{Within, within-lit, within-weaken, within-le, within-between, whole-within, rounds-within, add-within, sub-within, mul-within}
 use Rattle.raster.proofs.Bands.{or-false}
 use Rattle.bounds.specs.Bounds.{Accepted, Percentiles}
 use Rattle.bounds.proofs.Units.{units, zero-units, zero-more, zero-fewer, le-units, add-over, div-over, count-positive, count-num}
@@ -121,7 +123,7 @@ sqrtFloat-within (fin false zero e) f w o = record { is-finite = tt; above = le-
 sqrtFloat-within (fin true (suc m) e) f w o = let k = nothing-less (fin true (suc m) e) o in absurd (omega (arith, k, up-pos e, suc-mul m (up e)))
 sqrtFloat-within (fin false (suc m) e) f w o = root-most (fin false (suc m) e) (sqrtFloat (fin false (suc m) e)) (w .above) (root-nearest (fin false (suc m) e) f (lt→ltb 0 (suc m) (omega arith)))
 
-pub deviation-within : (s : Moments) → s .count ≤ 16777216 → Sound s → Within 2000 (deviationOf s)
+deviation-within : (s : Moments) → s .count ≤ 16777216 → Sound s → Within 2000 (deviationOf s)
 unfolding deviationOf
 deviation-within s l o = go (ltb 1 (s .count)) (ltb-true 1 (s .count))
   where
@@ -142,6 +144,46 @@ deviation-within s l o = go (ltb 1 (s .count)) (ltb-true 1 (s .count))
     go true h = more (h refl)
     go false h = zero-small
 
+-- ---- products of values that are not below zero
+
+record Above (x : Float) : Type 0 where
+  is-finite : T (finite x)
+  no-less : less x ≡ 0
+
+product-rounds : (x y : Float) → Above x → Above y → Rounds binary64 (mul binary64 x y) (plus x * plus y) 0 (den x * den y)
+unfolding mul
+product-rounds nan y a b = absurd (a .is-finite)
+product-rounds (inf s) y a b = absurd (a .is-finite)
+product-rounds (fin s m e) nan a b = absurd (b .is-finite)
+product-rounds (fin s m e) (inf t) a b = absurd (b .is-finite)
+product-rounds (fin false m e) (fin false n d) a b = record { sign = false; size = m * up e * (n * up d); is = refl; value = omega arith }
+product-rounds (fin false m e) (fin true n d) a b =
+    let z = ap (λ (i : ℕ). m * up e * i) (b .no-less) ∙ mul-zero (m * up e) in
+    record { sign = true; size = m * up e * (n * up d); is = refl; value = omega (arith, z, mul-zero (m * up e)) }
+product-rounds (fin true m e) (fin false n d) a b =
+    let z = ap (λ (i : ℕ). i * (n * up d)) (a .no-less) ∙ zero-mul (n * up d) in
+    record { sign = true; size = m * up e * (n * up d); is = refl; value = omega (arith, z, zero-mul (n * up d)) }
+product-rounds (fin true m e) (fin true n d) a b =
+    let z = ap (λ (i : ℕ). i * (n * up d)) (a .no-less) ∙ zero-mul (n * up d) in
+    record { sign = false; size = m * up e * (n * up d); is = refl; value = omega (arith, z) }
+
+-- they grow with both
+product-le : (x y x' y' : Float) → Above x → Above y → Above x' → Above y' → T (le x x') → T (le y y') → T (le (mul binary64 x y) (mul binary64 x' y'))
+product-le x y x' y' a b a' b' h k =
+    rounds-le binary64 (mul binary64 x y) (mul binary64 x' y') (plus x * plus y) 0 (den x * den y) (plus x' * plus y') 0 (den x' * den y')
+    (mul-pos (den-pos x) (den-pos y)) (mul-pos (den-pos x') (den-pos y')) (product-rounds x y a b) (product-rounds x' y' a' b')
+    (grown _ _ _ _ _ _ _ _ (part x x' a a' h) (part y y' b b' k))
+  where
+    part : (x x' : Float) → Above x → Above x' → T (le x x') → plus x * den x' ≤ plus x' * den x
+    part x x' a a' h =
+        let c = le→cross x x' (a .is-finite) (a' .is-finite) h in
+        omega (arith, c, ap (λ (i : ℕ). i * den x') (a .no-less), zero-mul (den x'), ap (λ (i : ℕ). i * den x) (a' .no-less), zero-mul (den x))
+
+    grown : (p d q e P D Q E : ℕ) → p * D ≤ P * d → q * E ≤ Q * e → p * q * (D * E) + 0 * (d * e) ≤ P * Q * (d * e) + 0 * (D * E)
+    grown p d q e P D Q E h k =
+        let g : p * q * (D * E) ≤ P * Q * (d * e) = le-trans (le-of-eq (sym (mul-mul-mul-comm p D q E))) (le-trans (mul-le-mul h k) (le-of-eq (mul-mul-mul-comm P d Q e))) in
+        omega (arith, g, zero-mul (d * e), zero-mul (D * E))
+
 -- ---- a value in a bin
 
 at-most-sum : (hs : List ℕ) (k : ℕ) → getD hs k 0 ≤ sumOf hs
@@ -157,6 +199,33 @@ count-nonneg n l = le-of-values (fin false 0 (pos 0)) (ofCount n) 0 1 n 1 (lit< 
 zero-below : (x : Float) → T (le zero64 x) → less x ≡ 0
 unfolding ofBits
 zero-below x h = nothing-less x h
+
+above-count : (n : ℕ) → n ≤ 2 ^ 53 → Above (ofCount n)
+above-count n l = record { is-finite = whole-within binary64 n l .is-finite; no-less = zero-below (ofCount n) (count-nonneg n l) }
+
+-- where the last bin begins, and its end
+abbrev lastBin : Float → Float → Float
+lastBin L W = add binary64 L (mul binary64 (ofCount 4095) W)
+
+abbrev lastEnd : Float → Float → Float
+lastEnd L W = add binary64 (lastBin L W) (mul binary64 (ofCount 1) W)
+
+record Ends (L W : Float) : Type 0 where
+  least-finite : T (finite L)
+  above : Above W
+  offset-finite : T (finite (mul binary64 (ofCount 4095) W))
+  width-finite : T (finite (mul binary64 (ofCount 1) W))
+  bin-finite : T (finite (lastBin L W))
+  most : T (le (lastEnd L W) (ofCount 2000))
+
+-- a span of 2,000 from 0, and of 1,000 from 1,000
+from-zero : Ends zero64 (div binary64 (ofCount 2000) bins64)
+unfolding ofBits ofInt round add mul div le
+from-zero = record { least-finite = tt; above = record { is-finite = tt; no-less = refl }; offset-finite = tt; width-finite = tt; bin-finite = tt; most = tt }
+
+from-thousand : Ends (ofCount 1000) (div binary64 (ofCount 1000) bins64)
+unfolding ofBits ofInt round add mul div le
+from-thousand = record { least-finite = tt; above = record { is-finite = tt; no-less = refl }; offset-finite = tt; width-finite = tt; bin-finite = tt; most = tt }
 
 module _ (least width : Float) (fl : T (fits binary64 least)) (wl : Within 1000 least) (ww : Within 1 width) (pw : T (le zero64 width))
     (r : BinRank) (b : r .bin ≤ 4095) (k : r .rank < r .size) (m : r .size ≤ 16777216) where
@@ -201,11 +270,7 @@ module _ (least width : Float) (fl : T (fits binary64 least)) (wl : Within 1000 
   unfolding within-bin
   within-bin-over = product-over share width (share-within .is-finite) (ww .is-finite) (inl (zero-below share share-over, zero-below width pw))
 
-  pub value-within : Within 5096 (valueAt least width r)
-  unfolding valueAt offset share within-bin
-  value-within = add-within binary64 5095 1 (lit< tt) (add binary64 least offset) within-bin (add-within binary64 1000 4095 (lit< tt) least offset wl offset-within) within-bin-within
-
-  pub value-least : T (le least (valueAt least width r))
+  value-least : T (le least (valueAt least width r))
   unfolding valueAt offset share within-bin
   value-least =
       let ws = add-within binary64 1000 4095 (lit< tt) least offset wl offset-within in
@@ -217,6 +282,20 @@ module _ (least width : Float) (fl : T (fits binary64 least)) (wl : Within 1000 
       le-trans' least start (add binary64 start within-bin)
       (add-over least offset least ul uo ul (omega (arith, zero-more, zero-fewer, le-units zero64 offset zero-units uo offset-over)))
       (add-over start within-bin start us ub us (omega (arith, zero-more, zero-fewer, le-units zero64 within-bin zero-units ub within-bin-over)))
+
+  -- nor above the last bin's end from no smaller least and width
+  value-most : (L W : Float) → Ends L W → T (le least L) → T (le width W) → T (le (valueAt least width r) (ofCount 2000))
+  unfolding valueAt offset share within-bin
+  value-most L W c hl hw =
+      let aw : Above width = record { is-finite = ww .is-finite; no-less = zero-below width pw } in
+      let ah : Above share = record { is-finite = share-within .is-finite; no-less = zero-below share share-over } in
+      let o = product-le (ofCount (r .bin)) width (ofCount 4095) W (above-count (r .bin) (omega arith)) aw (above-count 4095 (lit< tt)) (c .above) (count-le (r .bin) 4095 b) hw in
+      let i = product-le share width (ofCount 1) W ah aw (above-count 1 (lit< tt)) (c .above) (within-le binary64 1 (lit< tt) share share-within) hw in
+      le-trans' (add binary64 (add binary64 least offset) within-bin) (lastEnd L W) (ofCount 2000)
+      (add-le-both binary64 (add binary64 least offset) within-bin (lastBin L W) (mul binary64 (ofCount 1) W)
+      (add-within binary64 1000 4095 (lit< tt) least offset wl offset-within .is-finite) (within-bin-within .is-finite) (c .bin-finite) (c .width-finite)
+      (add-le-both binary64 least offset L (mul binary64 (ofCount 4095) W) (wl .is-finite) (offset-within .is-finite) (c .least-finite) (c .offset-finite) hl o) i)
+      (c .most)
 
 -- ---- the width of a bin
 
@@ -244,6 +323,17 @@ module _ (s : Moments) (o : Sound s) where
       subst (λ (z : Float). T (le zero64 (div binary64 span z))) (sym bins-is)
       (div-over 4096 (lit< tt) (lit< tt) span zero64 u zero-units (omega (arith, zero-more, zero-fewer, le-units zero64 span zero-units u g)))
 
+  width-le : (S : Float) → T (le span S) → T (le (div binary64 span bins64) (div binary64 S bins64))
+  unfolding ofBits
+  width-le S h = div-le binary64 bins64 tt span S h
+
+  -- from 0 on the span is at most 1,000
+  span-most : T (le zero64 (s .«min_db»)) → T (le span (ofCount 1000))
+  unfolding ofBits ofInt round sub le
+  span-most h =
+      le-trans' span (sub binary64 (ofCount 1000) zero64) (ofCount 1000)
+      (sub-le-both binary64 (s .«max_db») (s .«min_db») (ofCount 1000) zero64 (o .greatest-within .is-finite) (o .least-within .is-finite) tt tt (within-le binary64 1000 (lit< tt) (s .«max_db») (o .greatest-within)) h) tt
+
   -- any percentile of the bins
   module _ (vs : List Float) (c : s .count ≡ length vs) (l : length vs ≤ 16777216) (h : 0 < length vs) (p : Float) where
     found : BinRank
@@ -262,21 +352,32 @@ module _ (s : Moments) (o : Sound s) where
     found-size =
         omega (arith, first .size-is, at-most-sum (histogram (map (binOf (s .«min_db») (div binary64 one64 span)) vs)) (found .bin), bins-sum (s .«min_db») (div binary64 one64 span) vs)
 
-    pub spread-within : Within 5096 (spreadPercentile s span vs p .value)
-    unfolding spreadPercentile estimatePercentile found
-    spread-within =
-        value-within (s .«min_db») (div binary64 span bins64) (o .least-fit) (o .least-within) width-within width-over found found-bin (first .rank-below) found-size
-
-    pub spread-least : T (le (s .«min_db») (spreadPercentile s span vs p .value))
+    spread-least : T (le (s .«min_db») (spreadPercentile s span vs p .value))
     unfolding spreadPercentile estimatePercentile found
     spread-least =
         value-least (s .«min_db») (div binary64 span bins64) (o .least-fit) (o .least-within) width-within width-over found found-bin (first .rank-below) found-size
 
+    spread-most : T (le (spreadPercentile s span vs p .value) (ofCount 2000))
+    unfolding spreadPercentile estimatePercentile found
+    spread-most =
+        ⊎-elim
+        (λ (h : T (le zero64 (s .«min_db»))). most (ofCount 1000) (div binary64 (ofCount 1000) bins64) from-thousand (within-le binary64 1000 (lit< tt) (s .«min_db») (o .least-within)) (width-le (ofCount 1000) (span-most h)))
+        (λ (h : T (le (s .«min_db») zero64)). most zero64 (div binary64 (ofCount 2000) bins64) from-zero h (width-le (ofCount 2000) (within-le binary64 2000 (lit< tt) span span-within)))
+        (le-total zero64 (s .«min_db») (number-of-finite zero64 (zero-small .is-finite)) (number-of-finite (s .«min_db») (o .least-within .is-finite)))
+      where
+        most : (L W : Float) → Ends L W → T (le (s .«min_db») L) → T (le (div binary64 span bins64) W) → T (le (valueAt (s .«min_db») (div binary64 span bins64) found) (ofCount 2000))
+        most = value-most (s .«min_db») (div binary64 span bins64) (o .least-fit) (o .least-within) width-within width-over found found-bin (first .rank-below) found-size
+
+    spread-within : Within 2000 (spreadPercentile s span vs p .value)
+    spread-within =
+        within-between 2000 (lit< tt) (s .«min_db») (spreadPercentile s span vs p .value) (ofCount 2000)
+        (within-weaken (s .«min_db») (lit≤ tt) (o .least-within)) (whole-within binary64 2000 (lit< tt)) spread-least spread-most
+
   -- any percentile of a flat scene
-  flat-within : (p : Float) → Within 5096 (flatPercentile s p .value)
+  flat-within : (p : Float) → Within 2000 (flatPercentile s p .value)
   unfolding flatPercentile
   flat-within p =
-      either (Within 5096) (lt half64 p) (s .«max_db») (s .«min_db») (within-weaken (s .«max_db») (omega arith) (o .greatest-within)) (within-weaken (s .«min_db») (omega arith) (o .least-within))
+      either (Within 2000) (lt half64 p) (s .«max_db») (s .«min_db») (within-weaken (s .«max_db») (omega arith) (o .greatest-within)) (within-weaken (s .«min_db») (omega arith) (o .least-within))
 
   flat-least : (p : Float) → T (le (s .«min_db») (flatPercentile s p .value))
   unfolding flatPercentile
@@ -290,16 +391,16 @@ pub record Bounded (r : HistogramStats) : Type 0 where
   pub greatest : Within 1000 (r .«max_db»)
   pub mean : Within 1000 (r .«mean_db»)
   pub deviation : Within 2000 (r .«std_db»)
-  pub percentiles : Percentiles (Within 5096) r
+  pub percentiles : Percentiles (Within 2000) r
 
 gathered-all : (P : Float → Type 0) (s : Moments) (p : Float → Percentile) → ((q : Float) → P (p q .value)) → Percentiles P (gathered s p)
 unfolding gathered
 gathered-all P s p h = record { median = h _; p01 = h _; p02 = h _; p05 = h _; p10 = h _; p25 = h _; p75 = h _; p90 = h _; p95 = h _; p98 = h _; p99 = h _ }
 
-gathered-bounded : (s : Moments) → s .count ≤ 16777216 → Sound s → (p : Float → Percentile) → ((q : Float) → Within 5096 (p q .value)) → Bounded (gathered s p)
+gathered-bounded : (s : Moments) → s .count ≤ 16777216 → Sound s → (p : Float → Percentile) → ((q : Float) → Within 2000 (p q .value)) → Bounded (gathered s p)
 unfolding gathered
 gathered-bounded s l o p h =
-    record { least = o .least-within; greatest = o .greatest-within; mean = o .mean-within; deviation = deviation-within s l o; percentiles = gathered-all (Within 5096) s p h }
+    record { least = o .least-within; greatest = o .greatest-within; mean = o .mean-within; deviation = deviation-within s l o; percentiles = gathered-all (Within 2000) s p h }
 
 gathered-least : (s : Moments) (p : Float → Percentile) → ((q : Float) → T (le (s .«min_db») (p q .value))) → Percentiles (λ x. T (le (gathered s p .«min_db») x)) (gathered s p)
 unfolding gathered
@@ -325,7 +426,7 @@ module _ (vs : List Float) (l : length vs ≤ 16777216) (e : Each Decibel vs) wh
       go (suc n) z = omega arith
 
   -- "bounds on every field"
-  pub stats-bounded : Bounded (summaryOf vs)
+  stats-bounded : Bounded (summaryOf vs)
   unfolding summaryOf summary
   stats-bounded = go (lt (sub binary64 (s .«max_db») (s .«min_db»)) flat64) refl
     where
@@ -338,7 +439,7 @@ module _ (vs : List Float) (l : length vs ≤ 16777216) (e : Each Decibel vs) wh
       go false a = gathered-bounded s few o (spreadPercentile s (sub binary64 (s .«max_db») (s .«min_db»)) vs) (spread-within s o vs (none-count vs) l (some false a refl))
 
   -- "every percentile is at least min"
-  pub stats-least : Percentiles (λ x. T (le (summaryOf vs .«min_db») x)) (summaryOf vs)
+  stats-least : Percentiles (λ x. T (le (summaryOf vs .«min_db») x)) (summaryOf vs)
   unfolding summaryOf summary
   stats-least = go (lt (sub binary64 (s .«max_db») (s .«min_db»)) flat64) refl
     where

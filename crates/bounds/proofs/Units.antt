@@ -15,7 +15,7 @@ use lib.Ieee.Fits.{and-l, and-r, round-fits, neg-fits}
 use lib.Ieee.Positive.{num, den, den-pos, positive, positive-of-value, value→cross}
 use lib.Ieee.Scale.{finite}
 use Rattle.spec.specs.Floats.{zero64, ofCount}
-use Rattle.numeric.proofs.Order.{plus, less, le→cross, cross→le}
+use Rattle.numeric.proofs.Order.{plus, less, le→cross}
 use Rattle.numeric.proofs.Round.{Rounds, rounds-le}
 use Rattle.numeric.proofs.Ops.{add-rounds, sub-rounds, div-rounds, num-pos, neg-finite}
 use Rattle.numeric.proofs.Ends.{fin-unique}
@@ -145,11 +145,6 @@ module _ (x y : Float) (u : Units x) (w : Units y) where
       le-of-mul-le-mul-right
       (le-trans (le-of-eq (sym left)) (le-trans (mul-le-mul-right grains (le→cross x y (u .is-finite) (w .is-finite) h)) (le-of-eq right)))
       (mul-pos (den-pos x) (den-pos y))
-
-  pub units-le : u .more + w .fewer ≤ w .more + u .fewer → T (le x y)
-  units-le h =
-      cross→le x y (u .is-finite) (w .is-finite)
-      (le-of-mul-le-mul-right (le-trans (le-of-eq left) (le-trans (mul-le-mul-right (den x * den y) h) (le-of-eq (sym right)))) grains-pos)
 
 -- ---- a sum
 

@@ -48,7 +48,7 @@ pub record BoundedStatistics (s : HistogramStats) : Type 0 where
   pub greatest : Between 1000 (s .«max_db»)
   pub mean : Between 1000 (s .«mean_db»)
   pub deviation : Between 2000 (s .«std_db»)
-  pub percentiles : Percentiles (Between 5096) s
+  pub percentiles : Percentiles (Between 2000) s
 
 -- every float of the statistics is bounded
 unfoldable pub StatisticsBounded : Type 0
