@@ -3,4 +3,4 @@ pub mod Moments
 pub mod Bins
 pub mod Statistics
 pub mod Windows
-pub mod Bounded
+pub mod Bounds

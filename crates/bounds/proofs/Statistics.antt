@@ -203,13 +203,14 @@ zero-below x h = nothing-less x h
 above-count : (n : ℕ) → n ≤ 2 ^ 53 → Above (ofCount n)
 above-count n l = record { is-finite = whole-within binary64 n l .is-finite; no-less = zero-below (ofCount n) (count-nonneg n l) }
 
--- where the last bin begins, and its end
+-- where the last bin of width W from L on begins, and where it ends
 abbrev lastBin : Float → Float → Float
 lastBin L W = add binary64 L (mul binary64 (ofCount 4095) W)
 
 abbrev lastEnd : Float → Float → Float
 lastEnd L W = add binary64 (lastBin L W) (mul binary64 (ofCount 1) W)
 
+-- all of it finite, and the end at most 2,000
 record Ends (L W : Float) : Type 0 where
   least-finite : T (finite L)
   above : Above W
@@ -283,7 +284,7 @@ module _ (least width : Float) (fl : T (fits binary64 least)) (wl : Within 1000 
       (add-over least offset least ul uo ul (omega (arith, zero-more, zero-fewer, le-units zero64 offset zero-units uo offset-over)))
       (add-over start within-bin start us ub us (omega (arith, zero-more, zero-fewer, le-units zero64 within-bin zero-units ub within-bin-over)))
 
-  -- nor above the last bin's end from no smaller least and width
+  -- at most where the last bin ends, for a least and a width that are no smaller
   value-most : (L W : Float) → Ends L W → T (le least L) → T (le width W) → T (le (valueAt least width r) (ofCount 2000))
   unfolding valueAt offset share within-bin
   value-most L W c hl hw =
