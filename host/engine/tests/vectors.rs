@@ -235,7 +235,13 @@ fn statistics(record: &Record) -> Outcome {
     let (mut valid_count, mut floats) = (Lent::new(1), Lent::<f64>::new(15));
     record.answers(unsafe {
         c::quicklook_statistics(
-            record.rows, record.cols, db.as_ptr(), db.len(), valid_mask.as_ptr(), valid_mask.len(), valid_count.ptr(),
+            record.rows,
+            record.cols,
+            db.as_ptr(),
+            db.len(),
+            valid_mask.as_ptr(),
+            valid_mask.len(),
+            valid_count.ptr(),
             floats.ptr().cast(),
         )
     })?;
@@ -254,7 +260,14 @@ fn window(record: &Record) -> Outcome {
     let (mut blank, mut floats) = (Lent::new(1), Lent::<f64>::new(4));
     record.answers(unsafe {
         c::quicklook_window(
-            record.strategy, record.rows, record.cols, db.as_ptr(), db.len(), valid_mask.as_ptr(), valid_mask.len(), blank.ptr(),
+            record.strategy,
+            record.rows,
+            record.cols,
+            db.as_ptr(),
+            db.len(),
+            valid_mask.as_ptr(),
+            valid_mask.len(),
+            blank.ptr(),
             floats.ptr().cast(),
         )
     })?;
@@ -277,8 +290,17 @@ fn grey_u8(record: &Record) -> Outcome {
     let (mut out, mut work) = (Lent::new(expected.len()), work_of(record, 2)?);
     record.answers(unsafe {
         c::quicklook_grey_u8(
-            record.strategy, record.rows, record.cols, db.as_ptr(), db.len(), valid_mask.as_ptr(), valid_mask.len(), out.ptr(), out.len,
-            work.ptr(), work.len,
+            record.strategy,
+            record.rows,
+            record.cols,
+            db.as_ptr(),
+            db.len(),
+            valid_mask.as_ptr(),
+            valid_mask.len(),
+            out.ptr(),
+            out.len,
+            work.ptr(),
+            work.len,
         )
     })?;
     out.is("greys", &expected)?;
@@ -291,8 +313,17 @@ fn grey_u16(record: &Record) -> Outcome {
     let (mut out, mut work) = (Lent::new(expected.len()), work_of(record, 2)?);
     record.answers(unsafe {
         c::quicklook_grey_u16(
-            record.strategy, record.rows, record.cols, db.as_ptr(), db.len(), valid_mask.as_ptr(), valid_mask.len(), out.ptr(), out.len,
-            work.ptr(), work.len,
+            record.strategy,
+            record.rows,
+            record.cols,
+            db.as_ptr(),
+            db.len(),
+            valid_mask.as_ptr(),
+            valid_mask.len(),
+            out.ptr(),
+            out.len,
+            work.ptr(),
+            work.len,
         )
     })?;
     out.is("greys", &expected)?;
@@ -308,8 +339,25 @@ fn picture(record: &Record) -> Outcome {
     let mut work = work_of(record, 4)?;
     record.answers(unsafe {
         c::quicklook_picture(
-            record.strategy, record.mode, record.rows, record.cols, db1.as_ptr(), db1.len(), marks1.as_ptr(), marks1.len(), db2.as_ptr(),
-            db2.len(), marks2.as_ptr(), marks2.len(), grey1.ptr(), grey1.len, grey2.ptr(), grey2.len, rgb.ptr(), rgb.len, work.ptr(),
+            record.strategy,
+            record.mode,
+            record.rows,
+            record.cols,
+            db1.as_ptr(),
+            db1.len(),
+            marks1.as_ptr(),
+            marks1.len(),
+            db2.as_ptr(),
+            db2.len(),
+            marks2.as_ptr(),
+            marks2.len(),
+            grey1.ptr(),
+            grey1.len,
+            grey2.ptr(),
+            grey2.len,
+            rgb.ptr(),
+            rgb.len,
+            work.ptr(),
             work.len,
         )
     })?;

@@ -294,7 +294,11 @@ fn beside() -> File {
     let (v1, v2) = ([0u8, 3, 4, 40, 41, 90, 200, 255], [255u8, 3, 9, 12, 0, 177, 41, 128]);
     for strategy in [Default, Clahe] {
         let expected = answer(oracle::composition(SyntheticRgbMode::Enhanced, strategy, &v1, &v2, 24), numbers);
-        f.check("composition", format!("bytes (createSyntheticRgbByModeAndStrategy Enhanced {strategy} {} {} 24)", list(v1), list(v2)), expected);
+        f.check(
+            "composition",
+            format!("bytes (createSyntheticRgbByModeAndStrategy Enhanced {strategy} {} {} 24)", list(v1), list(v2)),
+            expected,
+        );
     }
     for (rows, cols) in [(2usize, 5usize), (4, 1)] {
         let data: Vec<u16> = (1..=rows * cols).map(|k| 1000 * k as u16).collect();
