@@ -1,14 +1,14 @@
 -- A call that refuses by a number or is done: its reply, its lent list, and what is known where no number applies. Assumes nothing.
-use mathlib.Core.Path.{_≡_, refl, sym, ap, _∙_}
+use mathlib.Core.Path.{_≡_, refl}
 use mathlib.Core.Bool.{Bool, true, false, _||_}
 use mathlib.Core.List.{List, _∷_}
 use Prim.Native.Nat.{ℕ, zero, suc, _≤_, _<_}
 use native.Mathlib.Nat.{not-suc-le-zero}
 use native.Mathlib.Omega.{arith}
-use borrow.Author.Tests.{ltb-false, eqb-true, not-false}
+use borrow.Author.Tests.{eqb-true, not-false}
 use lib.Dec.{eqb}
-use Rattle.spec.specs.Answer.{Answer, answer, orRefused, firstOf, number, after}
-use Rattle.spec.specs.Refusals.{tooLong, unlike}
+use Rattle.spec.specs.Answer.{answer, orRefused, firstOf, number, after}
+use Rattle.spec.specs.Refusals.{unlike}
 
 module _ {A B : Type 0} (f : A → List B) (a : A) (old : List B) where
   -- what a call with the refusal m owes: the reply's number and the list afterwards
@@ -56,7 +56,3 @@ or-right false t e = e
 pub not-unlike : (n m : ℕ) → unlike n m ≡ false → n ≡ m
 unfolding unlike
 not-unlike n m e = eqb-true n m (not-false (eqb n m) e)
-
-pub not-too-long : (n : ℕ) → tooLong n ≡ false → n ≤ 16777216
-unfolding tooLong
-not-too-long n e = ltb-false 16777216 n e

@@ -1,18 +1,17 @@
 -- Operations on floats that are the same number give the same number, and the same float where a zero's sign cannot be seen. Assumes nothing.
-use mathlib.Core.Path.{_≡_, refl, sym, ap, ap₂, _∙_, subst₂}
-use mathlib.Core.Bool.{Bool, true, false, cond, not, _&&_, _||_, Bool·beq, true≢false}
+use mathlib.Core.Path.{_≡_, refl, sym, ap, _∙_, subst₂}
+use mathlib.Core.Bool.{Bool, true, false, cond, not, _&&_, true≢false}
 use Prim.Native.Nat.{ℕ, zero, suc, _*_, _-_, _<_, zero-le, suc-le-suc}
 use native.Mathlib.Nat.{zero-mul, mul-zero, zero-add, add-zero, sub-zero, mul-one, mul-pos}
 use native.Mathlib.Omega.{arith}
-use borrow.Author.Tests.{lt-ltb, le-ltb, eq-eqb, ne-eqb}
-use lib.Dec.{T, ltb, eqb, lit<}
+use borrow.Author.Tests.{lt-ltb, le-ltb, ne-eqb}
+use lib.Dec.{T, ltb, lit<}
 use lib.IntN.{pos}
-use lib.Ieee.{Float, nan, inf, fin, binary64, up, down, unlike, below, level, round, neg, sum, add, sub, mul, div, lt, eq, le, toUnsigned}
+use lib.Ieee.{Float, nan, inf, fin, binary64, up, down, unlike, below, round, neg, sum, add, sub, mul, div, lt, toUnsigned}
 use lib.Ieee.Fits.{down-pos, up-pos}
 use lib.Ieee.Positive.{positive}
 use lib.Ieee.Scale.{round-same}
-use Rattle.spec.specs.Floats.{maxFloat, minFloat, clampFloat, absFloat, roundAsU64}
-use Rattle.spec.specs.Root.{sqrtFloat}
+use Rattle.spec.specs.Floats.{maxFloat, minFloat, clampFloat}
 use Rattle.spec.specs.Number.{Alike, same, zeros}
 
 abbrev nil : Bool → Float
@@ -28,10 +27,6 @@ pub alike-trans : {x y z : Float} → Alike x y → Alike y z → Alike x z
 alike-trans same q = q
 alike-trans (zeros s t) same = zeros s t
 alike-trans (zeros s t) (zeros _ u) = zeros s u
-
-pub alike-sym : {x y : Float} → Alike x y → Alike y x
-alike-sym same = same
-alike-sym (zeros s t) = zeros t s
 
 -- a fraction of numerator 0
 round-nil : (s : Bool) (a c : ℕ) → a ≡ 0 → 0 < c → round binary64 s a c ≡ nil s
@@ -187,47 +182,6 @@ lt-alike {y} (zeros s t) same = lt-left s t y
 lt-alike {x} same (zeros s t) = lt-right x s t
 lt-alike (zeros s t) (zeros u v) = lt-left s t (nil u) ∙ lt-right (nil t) u v
 
-or-true : (p : Bool) → p || true ≡ true
-or-true true = refl
-or-true false = refl
-
-and-true : (p : Bool) → p && true ≡ p
-and-true true = refl
-and-true false = refl
-
-eq-left : (s s′ : Bool) (y : Float) → eq (nil s) y ≡ eq (nil s′) y
-unfolding eq
-eq-left s s′ nan = refl
-eq-left s s′ (inf t) = refl
-eq-left s s′ (fin t n d) = blind s t (0 * down d) (n * up d * 1) (zero-mul (down d)) ∙ sym (blind s′ t (0 * down d) (n * up d * 1) (zero-mul (down d)))
-  where
-    blind : (s t : Bool) (a b : ℕ) → a ≡ 0 → level s a t b ≡ eqb a b
-    blind s t a b e = ap (λ (z : Bool). eqb a b && (Bool·beq s t || z)) (eq-eqb a 0 e) ∙ ap (λ (z : Bool). eqb a b && z) (or-true (Bool·beq s t)) ∙ and-true (eqb a b)
-
-eq-right : (x : Float) (t t′ : Bool) → eq x (nil t) ≡ eq x (nil t′)
-unfolding eq
-eq-right nan t t′ = refl
-eq-right (inf s) t t′ = refl
-eq-right (fin s m e) t t′ = blind s t (m * up e * 1) (0 * down e) (zero-mul (down e)) ∙ sym (blind s t′ (m * up e * 1) (0 * down e) (zero-mul (down e)))
-  where
-    both : (p q : Bool) → q && (p || q) ≡ q
-    both true true = refl
-    both true false = refl
-    both false true = refl
-    both false false = refl
-    blind : (s t : Bool) (a b : ℕ) → b ≡ 0 → level s a t b ≡ eqb a b
-    blind s t a b e = ap (λ (z : ℕ). level s a t z) e ∙ both (Bool·beq s t) (eqb a 0) ∙ sym (ap (eqb a) e)
-
-pub eq-alike : {x x′ y y′ : Float} → Alike x x′ → Alike y y′ → eq x y ≡ eq x′ y′
-eq-alike same same = refl
-eq-alike {y} (zeros s t) same = eq-left s t y
-eq-alike {x} same (zeros s t) = eq-right x s t
-eq-alike (zeros s t) (zeros u v) = eq-left s t (nil u) ∙ eq-right (nil t) u v
-
-pub le-alike : {x x′ y y′ : Float} → Alike x x′ → Alike y y′ → le x y ≡ le x′ y′
-unfolding le
-le-alike p q = ap₂ _||_ (lt-alike p q) (eq-alike p q)
-
 pick-alike : (q q′ : Bool) {a a′ b b′ : Float} → q ≡ q′ → Alike a a′ → Alike b b′ → Alike (cond q a b) (cond q′ a′ b′)
 pick-alike true true e p r = p
 pick-alike false false e p r = r
@@ -252,30 +206,6 @@ whole-alike (zeros true true) = refl
 whole-alike (zeros true false) = refl
 whole-alike (zeros false true) = refl
 whole-alike (zeros false false) = refl
-
-pub roundAsU64-alike : {x x′ : Float} → Alike x x′ → roundAsU64 x ≡ roundAsU64 x′
-unfolding roundAsU64
-roundAsU64-alike same = refl
-roundAsU64-alike (zeros true true) = refl
-roundAsU64-alike (zeros true false) = refl
-roundAsU64-alike (zeros false true) = refl
-roundAsU64-alike (zeros false false) = refl
-
-pub absFloat-alike : {x x′ : Float} → Alike x x′ → absFloat x ≡ absFloat x′
-unfolding absFloat
-absFloat-alike same = refl
-absFloat-alike (zeros s t) = refl
-
-pub sqrtFloat-alike : {x x′ : Float} → Alike x x′ → Alike (sqrtFloat x) (sqrtFloat x′)
-unfolding sqrtFloat
-sqrtFloat-alike same = same
-sqrtFloat-alike (zeros s t) = zeros s t
-
--- a value above zero is no zero
-pub positive-alike : {x x′ : Float} → Alike x x′ → T (positive x) → x ≡ x′
-positive-alike same p = refl
-positive-alike (zeros true t) p = absurd p
-positive-alike (zeros false t) p = absurd p
 
 -- the larger of a zero and a value above zero is the latter
 maxFloat-nil : (s : Bool) (c : Float) → T (positive c) → maxFloat (nil s) c ≡ c

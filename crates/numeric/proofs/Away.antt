@@ -5,9 +5,9 @@ use native.Mathlib.Nat.{le-trans, le-of-eq, lt-of-lt-of-le, lt-of-le-of-lt, lt-o
 use native.Mathlib.Omega.{arith}
 use mathlib.Core.Bool.{Bool, true, false, not, _&&_}
 use lib.IntN.{ℤ, pos, negsuc}
-use lib.Dec.{T, T-not, ltb, leb, eqb, ltb→lt, lt→ltb, nltb→le, lit<, lit≤}
+use lib.Dec.{T, T-not, le→leb, ltb, leb, eqb, ltb→lt, lt→ltb, nltb→le, lit<, lit≤}
 use lib.Pow.{pow-add, pow-pos, pow-mono, shl-lt}
-use lib.Ieee.{Float, nan, inf, fin, Format, binary32, binary64, prec, low, emax, up, down, round, neg, add, lt, le, ofInt, fits, toUnsigned}
+use lib.Ieee.{Float, nan, inf, fin, Format, binary32, binary64, prec, low, emax, up, down, round, neg, add, lt, le, ofInt, fits, toUnsigned, inFloat}
 use lib.Ieee.Back.{round-whole, whole-unique}
 use lib.Ieee.Exact.{HasValue, round-exact}
 use lib.Ieee.Fits.{and-l, and-r, up-pos, neg-fits, round-fits}
@@ -17,7 +17,7 @@ use lib.Ieee.Scale.{finite}
 use Rattle.spec.specs.Floats.{roundAsU64}
 use Rattle.numeric.specs.Round.{roundFloat}
 use Rattle.numeric.proofs.Order.{plus, less, le-of-lt, le-trans as le-trans'}
-use Rattle.numeric.proofs.Facts.{zero-exponent}
+use Rattle.numeric.proofs.Facts.{holds, fails, zero-exponent}
 use Rattle.numeric.proofs.Picks.{roundAsU64-le}
 use Rattle.numeric.proofs.Round.{round-neg, neg-neg}
 use Rattle.numeric.proofs.Values.{add-values, value-below, value-above, nothing-less, whole-of, roundAsU64-of}
@@ -79,7 +79,7 @@ module _ (f : Format) (x : Float) (n : ℕ) (e : n ≡ toUnsigned 64 x) (h : n *
   short-at p z g =
       let w = whole-part x n p e narrow in
       let k : plus x * 2 < (n * 2 + 1) * den x = lt-of-not-le (λ (j : (n * 2 + 1) * den x ≤ plus x * 2).
-          T-not (le (add f (ofInt f (pos n)) half) x) g (value-above (add f (ofInt f (pos n)) half) x (n * 2 + 1) 2 (lit< tt) (half-more f n h) p z j)) in
+      T-not (le (add f (ofInt f (pos n)) half) x) g (value-above (add f (ofInt f (pos n)) half) x (n * 2 + 1) 2 (lit< tt) (half-more f n h) p z j)) in
       turned x n (omega (arith, narrow)) p (omega (arith, w .0, mul-assoc n (den x) 2)) (down-from n (plus x) (den x) k)
 
 -- x reaches n + 1/2
@@ -98,6 +98,10 @@ short f (inf true) n e h g = e
 short f (inf false) n e h g = absurd (omega (arith, narrow f (inf false) n e h))
 short f (fin true m k) n e h g = e
 short f (fin false m k) n e h g = short-at f (fin false m k) n e h tt refl g
+
+pub whole-fits : (f : Format) (n : ℕ) → n ≤ 2 ^ prec f → T (inFloat f (pos n))
+unfolding inFloat
+whole-fits f n h = le→leb n (2 ^ prec f) h
 
 -- ---- from 2^(prec - 1) on every value is whole
 pub large : (f : Format) (x : Float) (n : ℕ) → T (fits f x) → n ≡ toUnsigned 64 x → 2 ^ prec f ≤ n * 2 → n ≡ roundAsU64 x
@@ -131,10 +135,10 @@ unfolding roundAsU64
 limit-roundAsU64 binary32 = refl
 limit-roundAsU64 binary64 = refl
 
-pub small-roundAsU64 : (f : Format) (x : Float) → T (lt x (limit f)) → roundAsU64 x * 2 ≤ 2 ^ prec f
+small-roundAsU64 : (f : Format) (x : Float) → T (lt x (limit f)) → roundAsU64 x * 2 ≤ 2 ^ prec f
 small-roundAsU64 f x h = le-trans (mul-le-mul-right 2 (roundAsU64-le x (limit f) (le-of-lt x (limit f) h))) (le-of-eq (limit-roundAsU64 f))
 
-pub away-small : (f : Format) (x : Float) → T (lt nought x) → T (lt x (limit f)) → ofInt f (pos (roundAsU64 x)) ≡ roundFloat f x
+away-small : (f : Format) (x : Float) → T (lt nought x) → T (lt x (limit f)) → ofInt f (pos (roundAsU64 x)) ≡ roundFloat f x
 unfolding roundAsU64 roundFloat ofInt lt
 away-small f nan h k = absurd h
 away-small f (inf true) h k = absurd h
@@ -152,7 +156,7 @@ away-small f (fin false m e) h k =
     kept binary64 H h = omega arith
 
 -- the mirror
-pub away-neg : (f : Format) (x : Float) → neg (roundFloat f (neg x)) ≡ roundFloat f x
+away-neg : (f : Format) (x : Float) → neg (roundFloat f (neg x)) ≡ roundFloat f x
 unfolding neg roundFloat
 away-neg f nan = refl
 away-neg f (inf true) = refl
@@ -160,7 +164,7 @@ away-neg f (inf false) = refl
 away-neg f (fin true m e) = sym (round-neg f ((m * up e * 2 + down e) / (down e * 2)) 1)
 away-neg f (fin false m e) = ap neg (round-neg f ((m * up e * 2 + down e) / (down e * 2)) 1) ∙ neg-neg (round f false ((m * up e * 2 + down e) / (down e * 2)) 1)
 
-pub neg-above : (x : Float) → T (lt x nought) → T (lt nought (neg x))
+neg-above : (x : Float) → T (lt x nought) → T (lt nought (neg x))
 unfolding lt neg
 neg-above nan h = absurd h
 neg-above (inf true) h = tt
@@ -188,7 +192,7 @@ unfolding lt
 too-few binary32 m k h g = let a : 2 ≤ 2 ^ suc k = pow-mono {i = 1} {j = suc k} (suc-le-suc zero-le) in omega (arith, nltb→le (m * 1 * 1) (8388608 * 2 ^ suc k) g)
 too-few binary64 m k h g = let a : 2 ≤ 2 ^ suc k = pow-mono {i = 1} {j = suc k} (suc-le-suc zero-le) in omega (arith, nltb→le (m * 1 * 1) (4503599627370496 * 2 ^ suc k) g)
 
-pub away-large : (f : Format) (x : Float) → T (fits f x) → T (lt nought x) → T (not (lt x (limit f))) → x ≡ roundFloat f x
+away-large : (f : Format) (x : Float) → T (fits f x) → T (lt nought x) → T (not (lt x (limit f))) → x ≡ roundFloat f x
 unfolding fits lt roundFloat
 away-large f nan p h k = refl
 away-large f (inf s) p h k = refl
@@ -212,11 +216,11 @@ away-large f (fin false (suc m) (negsuc j)) p h k =
     let D = ltb (suc m * 1) (2 ^ suc (emax f) * 2 ^ suc j) in
     absurd (too-few f (suc m) j (ltb→lt (suc m) (2 ^ prec f) (and-r (eqb (suc m % 2) 1) (ltb (suc m) (2 ^ prec f)) (and-l A B (and-l (A && B) D p)))) k)
 
-pub away-large-neg : (f : Format) (x : Float) → T (fits f x) → T (lt x nought) → T (not (lt (neg x) (limit f))) → x ≡ roundFloat f x
+away-large-neg : (f : Format) (x : Float) → T (fits f x) → T (lt x nought) → T (not (lt (neg x) (limit f))) → x ≡ roundFloat f x
 away-large-neg f x p h k = sym (neg-neg x) ∙ ap neg (away-large f (neg x) (neg-fits f x p) (neg-above x h) k) ∙ away-neg f x
 
 -- either zero, and a NaN
-pub away-zero : (f : Format) (x : Float) → T (fits f x) → T (not (lt nought x)) → T (not (lt x nought)) → x ≡ roundFloat f x
+away-zero : (f : Format) (x : Float) → T (fits f x) → T (not (lt nought x)) → T (not (lt x nought)) → x ≡ roundFloat f x
 unfolding lt roundFloat round
 away-zero f nan p h k = refl
 away-zero f (inf true) p h k = refl
@@ -232,3 +236,23 @@ away-zero f (fin false (suc m) e) p h k =
     absurd (omega (arith, nltb→le (0 * down e) (suc m * up e * 1) h, zero-mul (down e), mul-pos {m = suc m} {n = up e} (suc-le-suc zero-le) (up-pos e)))
 away-zero f (fin true (suc m) e) p h k =
     absurd (omega (arith, nltb→le 0 (suc m * up e * 1 + 0 * down e) k, mul-pos {m = suc m} {n = up e} (suc-le-suc zero-le) (up-pos e)))
+
+-- ---- the five ends of `round`, each with the tests that lead to it: n is the rounded size
+module _ (f : Format) (x : Float) where
+  pub size-fits : (n : ℕ) → n ≡ roundAsU64 x → lt x (limit f) ≡ true → T (inFloat f (pos n))
+  size-fits n e k = whole-fits f n (omega (arith, e, small-roundAsU64 f x (holds k)))
+
+  pub above-small : (n : ℕ) → n ≡ roundAsU64 x → lt nought x ≡ true → lt x (limit f) ≡ true → ofInt f (pos n) ≡ roundFloat f x
+  above-small n e h k = ap (λ (m : ℕ). ofInt f (pos m)) e ∙ away-small f x (holds h) (holds k)
+
+  pub below-small : (n : ℕ) → n ≡ roundAsU64 (neg x) → lt x nought ≡ true → lt (neg x) (limit f) ≡ true → neg (ofInt f (pos n)) ≡ roundFloat f x
+  below-small n e h k = ap (λ (m : ℕ). neg (ofInt f (pos m))) e ∙ ap neg (away-small f (neg x) (neg-above x (holds h)) (holds k)) ∙ away-neg f x
+
+  pub above-large : fits f x ≡ true → lt nought x ≡ true → lt x (limit f) ≡ false → x ≡ roundFloat f x
+  above-large p h k = away-large f x (holds p) (holds h) (fails k)
+
+  pub below-large : fits f x ≡ true → lt x nought ≡ true → lt (neg x) (limit f) ≡ false → x ≡ roundFloat f x
+  below-large p h k = away-large-neg f x (holds p) (holds h) (fails k)
+
+  pub neither : fits f x ≡ true → lt nought x ≡ false → lt x nought ≡ false → x ≡ roundFloat f x
+  neither p h k = away-zero f x (holds p) (fails h) (fails k)

@@ -6,13 +6,12 @@ use native.Mathlib.Nat.{le-antisymm, le-of-eq, mul-right-comm}
 use native.Mathlib.Omega.{arith}
 use lib.Dec.{T}
 use lib.IntN.{ℤ, pos}
-use lib.Ieee.{Float, nan, inf, fin, Format, binary64, up, down, le, fits, toBits, ofBits, low, size, top, hid, prec}
+use lib.Ieee.{Float, nan, inf, fin, Format, up, down, le, fits, toBits, ofBits, low, size, top, hid, prec}
 use lib.Ieee.Bits.{ofBits-toBits}
 use lib.Ieee.Fits.{down-pos, up-pos}
 use lib.Ieee.Nearest.{div-same}
 use lib.Ieee.Exact.{HasValue}
 use lib.Ieee.Order.{transfer}
-use lib.Ieee.Scale.{finite}
 use Rattle.spec.specs.Number.{Alike, same, zeros}
 use Rattle.numeric.proofs.Order.{none, le→cross, only-top, only-bottom}
 use Rattle.numeric.proofs.Facts.{zero-exponent}
@@ -63,9 +62,6 @@ le-antisym f (fin true m e) (fin false n d) p q h k =
 le-antisym f (fin false m e) (fin true n d) p q h k =
     let c = le→cross (fin false m e) (fin true n d) tt tt h in
     both-nil f false true m e n d p q (omega arith) (omega arith)
-
-pub antisymmetric : (x y : Float) → T (finite x) → T (finite y) → T (fits binary64 x) → T (fits binary64 y) → T (le x y) → T (le y x) → Alike x y
-antisymmetric x y a b p q h k = le-antisym binary64 x y p q h k
 
 -- two values of a format that are the same fraction, not below zero
 pub value-unique : (f : Format) (x y : Float) (a c b d : ℕ) → 0 < c → 0 < d → T (fits f x) → T (fits f y) → HasValue x false a c → HasValue y false b d → a * d ≡ b * c → x ≡ y

@@ -6,11 +6,11 @@ use mathlib.Core.Bool.{Bool, true, false, not, _&&_, _||_, Bool·beq}
 use lib.IntN.{ℤ, pos, negsuc}
 use lib.Dec.{T, T-not, eqb, ltb→lt, nltb→le, eqb→eq}
 use lib.Pow.{pow-lt}
-use lib.Ieee.{Float, nan, inf, fin, Format, binary64, up, down, neg, lt, eq, le, ofBits, isNan, fits}
+use lib.Ieee.{Float, nan, inf, fin, Format, binary64, up, down, neg, lt, eq, le, ofBits, fits}
 use lib.Ieee.Fits.{and-l, and-i, eq→eqb, up-pos}
 use lib.Ieee.Scale.{finite}
 use Rattle.spec.specs.Floats.{zero64, absFloat}
-use Rattle.numeric.proofs.Order.{finite-between, number-of-finite, number→not-nan, none}
+use Rattle.numeric.proofs.Order.{finite-between, none}
 
 -- a flag, as a test
 pub holds : {b : Bool} → b ≡ true → T b
@@ -29,9 +29,6 @@ minus-thousand = neg thousand
 pub bounded-finite : (v : Float) → T (le minus-thousand v) → T (le v thousand) → T (finite v)
 unfolding neg ofBits
 bounded-finite v h k = finite-between minus-thousand v thousand tt tt h k
-
-pub bounded-not-nan : (v : Float) → T (le minus-thousand v) → T (le v thousand) → T (not (isNan v))
-bounded-not-nan v h k = number→not-nan v (number-of-finite v (bounded-finite v h k))
 
 -- ---- |x|
 pub abs-below : (x : Float) → T (lt x zero64) → neg x ≡ absFloat x

@@ -82,12 +82,6 @@ neg-finite nan p = p
 neg-finite (inf s) p = p
 neg-finite (fin s m e) p = tt
 
-neg-number : (x : Float) → Number x → Number (neg x)
-unfolding neg
-neg-number nan p = p
-neg-number (inf s) p = tt
-neg-number (fin s m e) p = tt
-
 -- ---- the difference
 pub sub-rounds : (f : Format) (x y : Float) → T (finite x) → T (finite y)
     → Rounds f (sub f x y) (plus x * den y + less y * den x) (less x * den y + plus y * den x) (den x * den y)
@@ -240,21 +234,6 @@ mul-le f y q = lift-le (λ (x : Float). mul f x y) (mul-inf f y q) (mul-number-f
 
 pub div-le : (f : Format) (y : Float) → T (positive y) → (x x' : Float) → T (le x x') → T (le (div f x y) (div f x' y))
 div-le f y q = lift-le (λ (x : Float). div f x y) (div-inf f y q) (div-number-finite f y q) (div-le-finite f y q)
-
--- and each is a number where x is
-pub add-number : (f : Format) (y : Float) → T (finite y) → (x : Float) → Number x → Number (add f x y)
-add-number f y q = lift-number (λ (x : Float). add f x y) (add-inf f y q) (add-number-finite f y q)
-    (λ (x x' : Float) (p : T (finite x)) (p' : T (finite x')) (h : T (le x x')). add-le-finite f x y x' y p q p' q h (le-refl y (number-of-finite y q)))
-
-pub sub-number : (f : Format) (y : Float) → T (finite y) → (x : Float) → Number x → Number (sub f x y)
-unfolding sub
-sub-number f y q = add-number f (neg y) (neg-finite y q)
-
-pub mul-number : (f : Format) (y : Float) → T (positive y) → (x : Float) → Number x → Number (mul f x y)
-mul-number f y q = lift-number (λ (x : Float). mul f x y) (mul-inf f y q) (mul-number-finite f y q) (mul-le-finite f y q)
-
-pub div-number : (f : Format) (y : Float) → T (positive y) → (x : Float) → Number x → Number (div f x y)
-div-number f y q = lift-number (λ (x : Float). div f x y) (div-inf f y q) (div-number-finite f y q) (div-le-finite f y q)
 
 -- a sum grows with both, a difference against the second
 pub add-le-both : (f : Format) (x y x' y' : Float) → T (finite x) → T (finite y) → T (finite x') → T (finite y') → T (le x x') → T (le y y') → T (le (add f x y) (add f x' y'))

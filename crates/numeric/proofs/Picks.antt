@@ -35,13 +35,6 @@ above-max a b q = go (lt b a) (le-of-lt b a)
     go true f = f tt
     go false f = le-refl b q
 
-pub above-max-left : (a b : Float) → Number a → Number b → T (le a (maxFloat a b))
-above-max-left a b p q = go (lt b a) (le-of-not-lt b a q p)
-  where
-    go : (u : Bool) → (T (not u) → T (le a b)) → T (le a (cond u a b))
-    go true f = le-refl a p
-    go false f = f tt
-
 -- ---- the smaller
 pub minFloat-le : (b x y : Float) → Number b → T (le x y) → T (le (minFloat x b) (minFloat y b))
 minFloat-le b x y q h = go (lt x b) (lt y b) (le-of-not-lt x b (le-left x y h) q) (le-of-lt x b)
@@ -58,13 +51,6 @@ under-min a b q = go (lt a b) (le-of-lt a b)
     go : (u : Bool) → (T u → T (le a b)) → T (le (cond u a b) b)
     go true f = f tt
     go false f = le-refl b q
-
-pub under-min-left : (a b : Float) → Number a → Number b → T (le (minFloat a b) a)
-under-min-left a b p q = go (lt a b) (le-of-not-lt a b p q)
-  where
-    go : (u : Bool) → (T (not u) → T (le b a)) → T (le (cond u a b) a)
-    go true f = le-refl a p
-    go false f = f tt
 
 -- ---- held between: whatever x is, a NaN too
 pub clamped-le : (lo hi x y : Float) → Number lo → Number hi → T (le x y) → T (le (clampFloat lo hi x) (clampFloat lo hi y))

@@ -24,7 +24,7 @@ floor-le n a b p q = le-of-succ (lt-of-not-le (λ (g : b + 1 ≤ a). not-le-of-l
     le-of-succ : a < b + 1 → a ≤ b
     le-of-succ h = omega arith
 
-pub floor-unique : (n a b : ℕ) → Floor n a → Floor n b → a ≡ b
+floor-unique : (n a b : ℕ) → Floor n a → Floor n b → a ≡ b
 floor-unique n a b p q = le-antisymm (floor-le n a b p q) (floor-le n b a q p)
 
 -- ---- `wholeRoot` is the whole part of the root
@@ -37,6 +37,7 @@ wholeRoot-floor n (suc k) r h g =
   where
     twice : r + 2 ^ suc k ≡ r + 2 ^ k + 2 ^ k
     twice = omega (arith, pow-suc 2 k)
+
     go : (b : Bool) → (T b → (r + 2 ^ k) * (r + 2 ^ k) ≤ n) → (T (not b) → n < (r + 2 ^ k) * (r + 2 ^ k))
         → ((r + 2 ^ k) * (r + 2 ^ k) ≤ n → Floor n (wholeRoot n k (r + 2 ^ k))) → (n < (r + 2 ^ k) * (r + 2 ^ k) → Floor n (wholeRoot n k r))
         → Floor n (wholeRoot n k (cond b (r + 2 ^ k) r))
@@ -71,6 +72,7 @@ step top root rest left i root' rest' left' u h e w d b =
   where
     shift : top * 4 ^ (i + 1) ≡ top * 4 ^ i * 4
     shift = ap (λ (z : ℕ). top * 4 ^ z) (add-one i) ∙ ap (λ (z : ℕ). top * z) (pow-suc 4 i) ∙ sym (mul-assoc top (4 ^ i) 4)
+
     more : (S S' : ℕ) → top * 4 ^ i ≡ S * 2 ^ 54 + left → S' ≡ S * 4 + left / 2 ^ 52 → top * 4 ^ (i + 1) ≡ S' * 2 ^ 54 + left'
     more S S' h e = omega (arith, h, e, d, shift)
 
@@ -83,5 +85,6 @@ done top root rest left h u =
   where
     whole : (S : ℕ) → top * 4 ^ 54 ≡ S * 2 ^ 54 + left → top * 2 ^ 54 ≡ S
     whole S e = omega (arith, u .left-lt)
+
     next : (r t : ℕ) → t ≤ r * 2 → r * r + t < (r + 1) * (r + 1)
     next r t h = simp (add-mul, mul-add) (omega arith)

@@ -23,6 +23,7 @@ use lib.Ieee.Scale.{finite}
 use Rattle.spec.specs.Floats.{zero64, half64, ofCount, clampFloat, roundAsU64}
 use Rattle.spec.specs.Value.{full16}
 use Rattle.numeric.proofs.Order.{plus, less, le→cross, finite-between, le-of-not-lt, lt-not-ge, number-of-finite, le-right, le-trans as le-trans'}
+use Rattle.numeric.proofs.Facts.{holds, fails}
 use Rattle.numeric.proofs.Picks.{clamped-lo, clamped-hi, toUnsigned-le}
 use Rattle.numeric.proofs.Ops.{add-rounds}
 use Rattle.numeric.proofs.Round.{Rounds}
@@ -48,6 +49,7 @@ closest-near a b P = go (compare (a % b * 2) b) (cmp (a % b * 2) b)
   where
     step : (w b : ℕ) → (w + 1) * b ≡ w * b + b
     step w b = add-mul w 1 b ∙ ap (λ (z : ℕ). w * b + z) (native.Mathlib.Nat.one-mul b)
+
     go : (o : Ordering) → Cmp o (a % b * 2) b → (nearest (a / b) o * b * 2 ≤ a * 2 + b) × (a * 2 ≤ nearest (a / b) o * b * 2 + b)
     go Ordering·lt h = (omega (arith, div-add-mod' a b), omega (arith, div-add-mod' a b))
     go Ordering·eq h = tie (a / b % 2) (omega arith)
@@ -143,9 +145,11 @@ pub record Near (x r : Float) : Type 0 where
   pub above : whole * den x * 2 ≤ plus x * 2 + den x
   pub under : plus x * 2 ≤ whole * den x * 2 + den x
 
-pub near : (x : Float) → T (le zero64 x) → T (le x full16) → Near x (sub binary64 (add binary64 x big64) big64)
+pub near : (x : Float) → T (le zero64 x) × T (le x full16) → Near x (sub binary64 (add binary64 x big64) big64)
 unfolding ofBits
-near x h k =
+near x b =
+    let h = b .0 in
+    let k = b .1 in
     let p : T (finite x) = finite-between (fin false 0 (pos 0)) x full16 tt tt h k in
     let z : less x ≡ 0 = nothing-less x h in
     let D = den x in
@@ -181,16 +185,39 @@ under-from n N D P h = simp (add-mul, mul-assoc) (omega (arith, simp mul-assoc a
 above-from : (n N D : ℕ) → n * D * 2 ≤ N * 2 + D → n * (D * 2) ≤ N * 2 + D
 above-from n N D h = omega (arith, mul-assoc n D 2)
 
-module _ (x r : Float) (c : Near x r) where
-  pub not-above : lt x r ≡ false → c .whole ≡ toUnsigned 64 x
+module _ {x r : Float} (c : Near x r) where
+  -- the cast to i32 is defined, and reads as that number
+  pub in-range : T (inSigned binary64 31 r)
+  unfolding inFloat
+  in-range = subst (λ (z : Float). T (inSigned binary64 31 z)) (sym (c .is)) (positive-back binary64 31 (c .whole) (le→leb (c .whole) (2 ^ 53) (omega (arith, c .small))) (omega (arith, c .small)) .0)
+
+  read-back : toZ w32 (ofZ w32 (toSigned 31 r)) ≡ pos (c .whole)
+  unfolding inFloat
+  read-back =
+      ap (λ (z : ℤ). toZ w32 (ofZ w32 z)) (ap (toSigned 31) (c .is) ∙ positive-back binary64 31 (c .whole) (le→leb (c .whole) (2 ^ 53) (omega (arith, c .small))) (omega (arith, c .small)) .1)
+      ∙ ap (λ (b : Bool). sel b (pos (c .whole)) (negsuc (2 ^ 32 - suc (c .whole)))) (lt-ltb (c .whole) (2 ^ 31) (omega (arith, c .small)))
+
+  abbrev cast : ℕ
+  cast = natAbs (toZ w32 (ofZ w32 (toSigned 31 r)))
+
+  pub fits-back : T (nonNeg (toZ w32 (ofZ w32 (toSigned 31 r)))) × Fits w32 cast
+  fits-back = subst (λ (z : ℤ). T (nonNeg z) × Fits w32 (natAbs z)) (sym read-back) (tt, record { fits = omega (arith, c .small) })
+
+  is-whole : cast ≡ c .whole
+  is-whole = ap natAbs read-back
+
+  pub few : cast ≤ 65535
+  few = omega (arith, is-whole, c .small)
+
+  pub not-above : lt x r ≡ false → cast ≡ toUnsigned 64 x
   not-above e =
       let n = c .whole in
       let v = count-value n (omega (arith, c .small)) in
       let l : T (le (ofCount n) x) = le-of-not-lt x (ofCount n) (number-of-finite x (c .finite-x)) (number-of-finite (ofCount n) (value-finite (ofCount n) n 1 v)) (subst (λ (z : Float). T (not (lt x z))) (c .is) (subst (λ (b : Bool). T (not b)) (sym e) tt)) in
       let g = value-below (ofCount n) x n 1 (lit< tt) v (c .finite-x) (c .nonneg-x) l in
-      cut x n (c .small) (c .finite-x) (omega (arith, g)) (simp add-mul (omega (arith, c .under, den-pos x)))
+      is-whole ∙ cut x n (c .small) (c .finite-x) (omega (arith, g)) (simp add-mul (omega (arith, c .under, den-pos x)))
 
-  pub above-x : lt x r ≡ true → (1 ≤ c .whole) × (c .whole - 1 ≡ toUnsigned 64 x)
+  pub above-x : lt x r ≡ true → (1 ≤ cast) × (cast - 1 ≡ toUnsigned 64 x)
   above-x e =
       let n = c .whole in
       let v = count-value n (omega (arith, c .small)) in
@@ -198,48 +225,32 @@ module _ (x r : Float) (c : Near x r) where
       let g : plus x < n * den x = lt-of-not-le (λ (j : n * den x ≤ plus x). lt-not-ge x (ofCount n) l (value-above (ofCount n) x n 1 (lit< tt) v (c .finite-x) (c .nonneg-x) (omega (arith, j)))) in
       let o : 1 ≤ n = some n (den x) (plus x) g in
       let b : n * den x ≡ (n - 1) * den x + den x = ap (λ (w : ℕ). w * den x) (let u : n ≡ n - 1 + 1 = omega arith in u) ∙ add-mul (n - 1) 1 (den x) ∙ ap (λ (w : ℕ). (n - 1) * den x + w) (native.Mathlib.Nat.one-mul (den x)) in
-      (o, cut x (n - 1) (omega (arith, c .small)) (c .finite-x) (omega (arith, c .above, b, den-pos x)) (simp add-mul (omega (arith, g, b))))
+      let w = is-whole in
+      (omega arith, ap (λ (k : ℕ). k - 1) w ∙ cut x (n - 1) (omega (arith, c .small)) (c .finite-x) (omega (arith, c .above, b, den-pos x)) (simp add-mul (omega (arith, g, b))))
     where
       some : (n d a : ℕ) → a < n * d → 1 ≤ n
       some zero d a h = absurd (omega (arith, native.Mathlib.Nat.zero-mul d))
       some (suc n) d a h = omega arith
-
-  -- the cast to i32 is defined, and reads as that number
-  pub in-range : T (inSigned binary64 31 r)
-  unfolding inFloat
-  in-range = subst (λ (z : Float). T (inSigned binary64 31 z)) (sym (c .is)) (positive-back binary64 31 (c .whole) (le→leb (c .whole) (2 ^ 53) (omega (arith, c .small))) (omega (arith, c .small)) .0)
-
-  pub read-back : toZ w32 (ofZ w32 (toSigned 31 r)) ≡ pos (c .whole)
-  unfolding inFloat
-  read-back =
-      ap (λ (z : ℤ). toZ w32 (ofZ w32 z)) (ap (toSigned 31) (c .is) ∙ positive-back binary64 31 (c .whole) (le→leb (c .whole) (2 ^ 53) (omega (arith, c .small))) (omega (arith, c .small)) .1)
-      ∙ ap (λ (b : Bool). sel b (pos (c .whole)) (negsuc (2 ^ 32 - suc (c .whole)))) (lt-ltb (c .whole) (2 ^ 31) (omega (arith, c .small)))
-
-  pub fits-back : T (nonNeg (toZ w32 (ofZ w32 (toSigned 31 r)))) × Fits w32 (natAbs (toZ w32 (ofZ w32 (toSigned 31 r))))
-  fits-back = subst (λ (z : ℤ). T (nonNeg z) × Fits w32 (natAbs z)) (sym read-back) (tt, record { fits = omega (arith, c .small) })
-
-  pub is-whole : natAbs (toZ w32 (ofZ w32 (toSigned 31 r))) ≡ c .whole
-  is-whole = ap natAbs read-back
 
   -- the middle between r and the next whole number
   middle-value : HasValue (add binary64 r half64) false (c .whole * 2 + 1) 2
   unfolding ofBits
   middle-value = subst (λ (z : Float). HasValue (add binary64 z half64) false (c .whole * 2 + 1) 2) (sym (c .is)) (half-more binary64 (c .whole) (omega (arith, c .small)))
 
-  pub reached : T (le (add binary64 r half64) x) → c .whole + 1 ≡ roundAsU64 x
+  pub reached : le (add binary64 r half64) x ≡ true → cast + 1 ≡ roundAsU64 x
   reached h =
       let n = c .whole in
-      let g : (n * 2 + 1) * den x ≤ plus x * 2 = value-below (add binary64 r half64) x (n * 2 + 1) 2 (lit< tt) middle-value (c .finite-x) (c .nonneg-x) h in
-      turned x (n + 1) (omega (arith, c .small)) (c .finite-x)
+      let g : (n * 2 + 1) * den x ≤ plus x * 2 = value-below (add binary64 r half64) x (n * 2 + 1) 2 (lit< tt) middle-value (c .finite-x) (c .nonneg-x) (holds h) in
+      ap (λ (k : ℕ). k + 1) is-whole ∙ turned x (n + 1) (omega (arith, c .small)) (c .finite-x)
       (up-from n (plus x) (den x) g)
       (under-from n (plus x) (den x) (den-pos x) (c .under))
 
-  pub short : T (not (le (add binary64 r half64) x)) → c .whole ≡ roundAsU64 x
+  pub short : le (add binary64 r half64) x ≡ false → cast ≡ roundAsU64 x
   short h =
       let n = c .whole in
       let g : plus x * 2 < (n * 2 + 1) * den x = lt-of-not-le (λ (j : (n * 2 + 1) * den x ≤ plus x * 2).
-          T-not (le (add binary64 r half64) x) h (value-above (add binary64 r half64) x (n * 2 + 1) 2 (lit< tt) middle-value (c .finite-x) (c .nonneg-x) j)) in
-      turned x n (omega (arith, c .small)) (c .finite-x) (above-from n (plus x) (den x) (c .above)) (down-from n (plus x) (den x) g)
+      T-not (le (add binary64 r half64) x) (fails h) (value-above (add binary64 r half64) x (n * 2 + 1) 2 (lit< tt) middle-value (c .finite-x) (c .nonneg-x) j)) in
+      is-whole ∙ turned x n (omega (arith, c .small)) (c .finite-x) (above-from n (plus x) (den x) (c .above)) (down-from n (plus x) (den x) g)
 
 -- ---- a value held to 0..full, full being at most 65535.0, is such an x, and cuts to at most what full cuts to
 pub clampFloat-small : (full v : Float) → T (le zero64 full) → T (le full full16) → T (le zero64 (clampFloat zero64 full v)) × T (le (clampFloat zero64 full v) full16)

@@ -7,15 +7,15 @@ use native.Mathlib.Omega.{arith}
 use mathlib.Core.Bool.{Bool, true, false, cond, _&&_}
 use lib.IntN.{ℤ, pos}
 use lib.Dec.{T, leb, leb→le, lt→ltb, lit<}
-use lib.Ieee.{Float, nan, inf, fin, Format, binary64, prec, unlike, up, down, round, neg, add, sub, mul, div, lt, le, ofInt}
+use lib.Ieee.{Float, nan, inf, fin, Format, prec, unlike, up, down, round, neg, add, sub, mul, div, lt, le, ofInt}
 use lib.Ieee.Back.{round-whole}
 use lib.Ieee.Exact.{HasValue}
 use lib.Ieee.Fits.{and-l, and-r, down-pos}
 use lib.Ieee.Order.{le-of-values}
 use lib.Ieee.Positive.{num, den, den-pos, positive}
 use lib.Ieee.Scale.{finite}
-use Rattle.spec.specs.Floats.{ofCount, maxFloat, minFloat, clampFloat, absFloat}
-use Rattle.numeric.proofs.Order.{plus, less, le→cross, cross→le, finite-between, le-of-lt, le-trans as le-trans'}
+use Rattle.spec.specs.Floats.{maxFloat, minFloat}
+use Rattle.numeric.proofs.Order.{plus, less, le→cross, cross→le, finite-between, le-trans as le-trans'}
 use Rattle.numeric.proofs.Round.{Rounds, rounds-le, round-neg, neg-anti, neg-neg}
 use Rattle.numeric.proofs.Ops.{add-rounds, div-rounds, neg-finite, num-pos}
 use Rattle.numeric.proofs.Picks.{either}
@@ -47,13 +47,6 @@ neg-within nan w = w
 neg-within (inf s) w = absurd (w .is-finite)
 neg-within (fin true m e) w = record { is-finite = tt; above = w .under; under = w .above }
 neg-within (fin false m e) w = record { is-finite = tt; above = w .under; under = w .above }
-
-pub absFloat-within : {n : ℕ} (x : Float) → Within n x → Within n (absFloat x)
-unfolding absFloat
-absFloat-within nan w = w
-absFloat-within (inf s) w = absurd (w .is-finite)
-absFloat-within (fin true m e) w = record { is-finite = tt; above = w .under; under = w .above }
-absFloat-within (fin false m e) w = w
 
 turned : (n : ℕ) (x : Float) → plus (neg x) ≤ n * den (neg x) → less x ≤ n * den x
 unfolding neg
@@ -199,17 +192,3 @@ maxFloat-within {n} x y v w = either (Within n) (lt y x) x y v w
 
 pub minFloat-within : {n : ℕ} (x y : Float) → Within n x → Within n y → Within n (minFloat x y)
 minFloat-within {n} x y v w = either (Within n) (lt x y) x y v w
-
-pub within-between : (n : ℕ) → n ≤ 2 ^ 53 → (lo x hi : Float) → Within n lo → Within n hi → T (le lo x) → T (le x hi) → Within n x
-within-between n l lo x hi v w h k = le-within binary64 n l x (le-trans' (neg (ofCount n)) lo x (within-ge binary64 n l lo v) h) (le-trans' x hi (ofCount n) k (within-le binary64 n l hi w))
-
--- whatever x is, a NaN too
-pub clampFloat-within : (n : ℕ) → n ≤ 2 ^ 53 → (lo hi x : Float) → Within n lo → Within n hi → Within n (clampFloat lo hi x)
-clampFloat-within n l lo hi x v w = outer (lt lo x) (le-of-lt lo x)
-  where
-    inner : (z : Float) → (b : Bool) → (T b → Within n z) → Within n (cond b z hi)
-    inner z true h = h tt
-    inner z false h = w
-    outer : (b : Bool) → (T b → T (le lo x)) → Within n (minFloat (cond b x lo) hi)
-    outer true h = inner x (lt x hi) (λ (g : T (lt x hi)). within-between n l lo x hi v w (h tt) (le-of-lt x hi g))
-    outer false h = inner lo (lt lo hi) (λ (g : T (lt lo hi)). v)

@@ -6,13 +6,13 @@ use Prim.Native.Nat.{ℕ, zero, suc, _+_, _*_, _≤_, _<_}
 use native.Mathlib.Nat.{add-zero, suc-inj, le-of-suc-le-suc, not-suc-le-zero}
 use native.Mathlib.Numerals.{add-one}
 use native.Mathlib.Omega.{arith}
-use borrow.Author.Tests.{lt-ltb, ltb-false, eqb-true, not-false}
+use borrow.Author.Tests.{ltb-false, eqb-true, not-false}
 use lib.Dec.{ltb, eqb}
 use lib.ListN.{length, getD, drop}
 use lib.Ieee.{Float, nan}
 use Rattle.spec.specs.Answer.{firstOf}
 use Rattle.spec.specs.Lists.{any, countOf}
-use Rattle.spec.specs.Pixels.{Pixel, off, on, pixel, pixels, validOf, isOn}
+use Rattle.spec.specs.Pixels.{Pixel, off, on, pixel, pixels, validOf}
 use Rattle.spec.specs.Refusals.{sidesRefused, unlike, lengthsRefused, marksRefused}
 
 -- ---- one pixel
@@ -55,12 +55,6 @@ module _ (m : List ℕ) (d : List Float) (i : ℕ) (h : i < length m) (k : i < l
 
 -- ---- how many
 
-pub valid-most : (px : List Pixel) → length (validOf px) ≤ length px
-unfolding validOf
-valid-most [] = omega arith
-valid-most (off ∷ px) = omega (arith, valid-most px)
-valid-most (on v ∷ px) = omega (arith, valid-most px)
-
 pub pixels-length : (m : List ℕ) (d : List Float) → length m ≡ length d → length (pixels m d) ≡ length d
 unfolding pixels zipWith
 pixels-length [] d e = e
@@ -79,14 +73,6 @@ valid-ones (k ∷ m) [] e b = absurd (omega (arith, e))
 valid-ones (zero ∷ m) (v ∷ d) e b = valid-ones m d (suc-inj e) b ∙ omega arith
 valid-ones (suc zero ∷ m) (v ∷ d) e b = ap suc (valid-ones m d (suc-inj e) b) ∙ omega arith
 valid-ones (suc (suc k) ∷ m) (v ∷ d) e b = absurd (omega (arith, ltb-false 1 (suc (suc k)) (or-false _ _ b .0)))
-
--- a pixel is valid where its mark is above 0
-pub any-valid : (m : List ℕ) (d : List Float) → length m ≡ length d → any (ltb 0) m ≡ any isOn (pixels m d)
-unfolding pixels pixel zipWith any isOn
-any-valid [] d e = refl
-any-valid (k ∷ m) [] e = absurd (omega (arith, e))
-any-valid (zero ∷ m) (v ∷ d) e = any-valid m d (suc-inj e)
-any-valid (suc k ∷ m) (v ∷ d) e = rw (lt-ltb 0 (suc k) (omega arith))
 
 -- ---- what is known once a test has not refused
 

@@ -27,18 +27,6 @@ module _ {A : Type 0} (f : A → Bool) where
   unfolding any
   any-none = refl
 
-  module _ (xs : List A) (i : ℕ) where
-    pub any-end : length xs ≤ i → i ≤ length xs → any f (drop i xs) ≡ false
-    unfolding any
-    any-end a b = let e : i ≡ length xs = omega arith in rw (e, drop-length)
-
-    module _ (d : A) (h : i < length xs) where
-      pub any-here-at : f (getD xs i d) ≡ true → any f (drop i xs) ≡ true
-      any-here-at e = rw (drop-cons xs i d) (any-here (getD xs i d) (drop (suc i) xs) e)
-
-      pub any-not-here-at : f (getD xs i d) ≡ false → any f (drop i xs) ≡ any f (drop (i + 1) xs)
-      any-not-here-at e = rw (add-one i, drop-cons xs i d) (any-not-here (getD xs i d) (drop (suc i) xs) e)
-
 -- ---- the greatest
 
 module _ (xs : List ℕ) (m i : ℕ) where

@@ -20,11 +20,10 @@ take-three l j a b c h =
     let e2 : j + 2 ≡ suc (j + 1) = omega arith in
     ap (λ (n : ℕ). take n (set x (j + 2) c)) e3 ∙ take-suc-set x (j + 2) c (omega arith)
     ∙ ap (λ (r : List ℕ). r ++ (c ∷ [])) (ap (λ (n : ℕ). take n x) e2 ∙ take-suc-set y (j + 1) b (omega arith)
-      ∙ ap (λ (r : List ℕ). r ++ (b ∷ [])) (ap (λ (n : ℕ). take n y) (add-one j) ∙ take-suc-set l j a (omega arith)))
+    ∙ ap (λ (r : List ℕ). r ++ (b ∷ [])) (ap (λ (n : ℕ). take n y) (add-one j) ∙ take-suc-set l j a (omega arith)))
     ∙ simp append-assoc
 
 module _ (f : ℕ → ℕ → Rgb) (band1 band2 : List ℕ) where
-
   abbrev pub Painted : List ℕ → ℕ → ℕ → Type 0
   Painted out i j = (i ≤ length band1) × (j ≡ 3 * i) × (length out ≡ 3 * length band1) × (take j out ++ bytesOf (zipWith f (drop i band1) (drop i band2)) ≡ bytesOf (zipWith f band1 band2))
 
@@ -33,17 +32,17 @@ module _ (f : ℕ → ℕ → Rgb) (band1 band2 : List ℕ) where
   unfolding bytesOf zipWith
   one-less i h1 h2 c e = rw (add-one i, drop-cons band1 i 0, drop-cons band2 i 0, e)
 
-  pub painted-start : (out : List ℕ) → length out ≡ 3 * length band1 → Painted out 0 0
-  painted-start out h = (omega arith, omega arith, h, refl)
-
   pub painted-step : (out : List ℕ) (i j : ℕ) (c : Rgb) → i < length band1 → length band2 ≡ length band1 → c ≡ f (getD band1 i 0) (getD band2 i 0) →
       Painted out i j → Painted (written out j c) (i + 1) (j + 3)
   painted-step out i j c h e v p =
-      let rest : List ℕ = bytesOf (zipWith f (drop (i + 1) band1) (drop (i + 1) band2)) in
-      (omega arith, omega arith, simp length-set (p .2),
-       ap (λ (r : List ℕ). r ++ rest) (take-three out j (c .r) (c .g) (c .b) (omega arith))
-       ∙ append-assoc (take j out) (c .r ∷ c .g ∷ c .b ∷ []) rest
-       ∙ ap (λ (r : List ℕ). take j out ++ r) (sym (one-less i h (omega arith) c v)) ∙ p .3)
+      let rest : List ℕ = bytesOf (zipWith f (drop (i + 1) band1) (drop (i + 1) band2)) in (
+        omega arith,
+        omega arith,
+        simp length-set (p .2),
+        ap (λ (r : List ℕ). r ++ rest) (take-three out j (c .r) (c .g) (c .b) (omega arith))
+            ∙ append-assoc (take j out) (c .r ∷ c .g ∷ c .b ∷ []) rest
+            ∙ ap (λ (r : List ℕ). take j out ++ r) (sym (one-less i h (omega arith) c v)) ∙ p .3,
+      )
 
   pub painted-end : (out : List ℕ) (i j : ℕ) → length band1 ≤ i → Painted out i j → out ≡ bytesOf (zipWith f band1 band2)
   unfolding bytesOf zipWith
