@@ -12,6 +12,7 @@ use lib.ListN.{length, take, drop, getD, replicate, length-take, length-drop, le
 use lib.Seq.{paste, ext-getD, getD-take, getD-drop, length-paste}
 use Rattle.spec.specs.Padding.{padCell, padded}
 use Rattle.padding.specs.Offsets.{startOf}
+use Rattle.padding.proofs.Lengths.{product}
 use Rattle.lists.proofs.Paste.{paste-in, paste-before, paste-after}
 use Rattle.lists.proofs.Places.{places-length, places-at}
 
@@ -33,9 +34,12 @@ module _ (rows cols : ℕ) where
   abbrev pub start : ℕ → ℕ
   start r = startOf rows cols r
 
-  -- a row of the raster lies within the raster
+  -- a row of the raster lies within the raster, and a raster with narrow sides is short
   pub row-room : (r : ℕ) → r < rows → r * cols + cols ≤ rows * cols
   row-room r h = omega (arith, mul-le-mul-right {m = suc r} {n = rows} cols h, suc-mul r cols)
+
+  pub row-short : (r : ℕ) → r < rows → rows ≤ 4096 → cols ≤ 4096 → r * cols + cols ≤ 16777216
+  row-short r h a b = omega (arith, row-room r h, product rows cols a b)
 
   -- and within the square
   pub room : (r : ℕ) → r < rows → start r + cols ≤ side * side
@@ -89,26 +93,34 @@ module _ (rows cols : ℕ) where
     unmoved r y x d (no h) (no g) = other-row r y x (λ e. d e (omega arith) (omega arith)) (decLt y (top + r))
 
     -- the square with the first r rows in place
-    abbrev pub Placed : List ℕ → ℕ → Type 0
+    abbrev Placed : List ℕ → ℕ → Type 0
     Placed p r = (length p ≡ side * side) × ((k : ℕ) → k < side * side → getD p k 0 ≡ cellAt r (k / side) (k % side))
 
     -- zeros: no row yet
     zeros : Placed (replicate (side * side) 0) 0
     zeros = (length-replicate (side * side) 0, λ k h. getD-replicate (side * side) k 0 0 h ∙ sym (none-at (k / side) (k % side) (decLt (k / side) top)))
 
-    pub placed-none : (p : List ℕ) → p ≡ replicate (side * side) 0 → Placed p 0
-    placed-none p e = rw e zeros
+    -- what holds before row r is placed
+    pub record Before (p : List ℕ) (r : ℕ) : Type 0 where
+      pub within : r ≤ rows
+      pub placed : Placed p r
+
+    pub none : (p : List ℕ) → p ≡ replicate (side * side) 0 → Before p 0
+    none p e = record { within = omega arith; placed = rw e zeros }
+
+    pub same-length : (p q : List ℕ) (r : ℕ) → p ≡ replicate (side * side) 0 → Before q r → length q ≡ length p
+    same-length p q r e t = t .placed .0 ∙ sym (none p e .placed .0)
 
     module _ (r : ℕ) (h : r < rows) (p q : List ℕ) (t : Placed p r) (e : length q ≡ cols) (v : (j : ℕ) → j < cols → getD q j 0 ≡ getD xs (r * cols + j) 0) where
-      within : start r + length q ≤ length p
-      within = omega (arith, room r h, t .0)
+      inside : start r + length q ≤ length p
+      inside = omega (arith, room r h, t .0)
 
       abbrev more : List ℕ
       more = paste p (start r) q (length q)
 
       in-row : (j : ℕ) → j < cols → getD more (start r + j) 0 ≡ cellAt (r + 1) ((start r + j) / side) ((start r + j) % side)
       in-row j l =
-          paste-in 0 p (start r) q within j (omega arith) ∙ v j l ∙ sym (new-row r j l)
+          paste-in 0 p (start r) q inside j (omega arith) ∙ v j l ∙ sym (new-row r j l)
           ∙ ap (λ (y : ℕ). cellAt (r + 1) y (left + j)) (sym (place-row r j h l)) ∙ ap (λ (x : ℕ). cellAt (r + 1) ((start r + j) / side) x) (sym (place-col r j h l))
 
       elsewhere : (k : ℕ) → k < side * side → (start r ≤ k → k < start r + cols → ⊥) → cellAt r (k / side) (k % side) ≡ cellAt (r + 1) (k / side) (k % side)
@@ -118,8 +130,8 @@ module _ (rows cols : ℕ) where
           (decLt (k % side) left) (decLe (left + cols) (k % side)))
 
       cell-of : (k : ℕ) → k < side * side → Dec (k < start r) → Dec (start r + cols ≤ k) → getD more k 0 ≡ cellAt (r + 1) (k / side) (k % side)
-      cell-of k l (yes a) b = paste-before 0 p (start r) q within k a ∙ t .1 k l ∙ elsewhere k l (λ c d. omega arith)
-      cell-of k l (no a) (yes b) = paste-after 0 p (start r) q within k (omega arith) ∙ t .1 k l ∙ elsewhere k l (λ c d. omega arith)
+      cell-of k l (yes a) b = paste-before 0 p (start r) q inside k a ∙ t .1 k l ∙ elsewhere k l (λ c d. omega arith)
+      cell-of k l (no a) (yes b) = paste-after 0 p (start r) q inside k (omega arith) ∙ t .1 k l ∙ elsewhere k l (λ c d. omega arith)
       cell-of k l (no a) (no b) =
           let j : ℕ = k - start r in
           let i : start r + j ≡ k = omega arith in
@@ -127,7 +139,7 @@ module _ (rows cols : ℕ) where
 
       step : Placed more (r + 1)
       step = (
-        length-paste p (start r) q (length q) within (omega arith) ∙ t .0,
+        length-paste p (start r) q (length q) inside (omega arith) ∙ t .0,
         λ k l. cell-of k l (decLt k (start r)) (decLe (start r + cols) k),
       )
 
@@ -136,19 +148,26 @@ module _ (rows cols : ℕ) where
     rowOf r = take (r * cols + cols - r * cols) (drop (r * cols) xs)
 
     module _ (whole : length xs ≡ rows * cols) (r : ℕ) (h : r < rows) where
-      pub row-length : length (rowOf r) ≡ cols
+      row-length : length (rowOf r) ≡ cols
       row-length = simp (length-take, length-drop) (omega (arith, row-room r h, whole))
 
       row-at : (j : ℕ) → j < cols → getD (rowOf r) j 0 ≡ getD xs (r * cols + j) 0
       row-at j l = getD-take (r * cols + cols - r * cols) (drop (r * cols) xs) j 0 (omega arith) ∙ getD-drop (r * cols) xs j 0
 
-      -- one row more
-      pub next : (at : ℕ) (p new : List ℕ) → at ≡ start r → Placed p r → new ≡ paste p at (rowOf r) (length (rowOf r)) → Placed new (r + 1)
-      next at p new e t v = rw (v, e) (step r h p (rowOf r) t row-length row-at)
+      -- a row fits, and is one row more
+      module _ (at : ℕ) (p : List ℕ) (e : at ≡ start r) (t : Before p r) where
+        pub fits : at + length (rowOf r) ≤ length p
+        fits = omega (arith, row-length, room r h, t .placed .0)
+
+        pub next : (new : List ℕ) → new ≡ paste p at (rowOf r) (length (rowOf r)) → Before new (r + 1)
+        next new v = record { within = omega arith; placed = rw (v, e) (step r h p (rowOf r) (t .placed) row-length row-at) }
 
     -- all rows
-    pub finish : (p : List ℕ) → Placed p rows → p ≡ padded rows cols xs
+    whole-square : (p : List ℕ) → Placed p rows → p ≡ padded rows cols xs
     unfolding padded padCell cellAt
-    finish p t =
+    whole-square p t =
         ext-getD 0 p (padded rows cols xs) (t .0 ∙ sym (places-length _ 0 (side * side)))
         (λ k l. let g : k < side * side = omega arith in t .1 k g ∙ sym (places-at _ 0 (side * side) k g))
+
+    pub finish : (p : List ℕ) (r : ℕ) → Before p r → rows ≤ r → p ≡ padded rows cols xs
+    finish p r t h = let e : r ≡ rows = omega (arith, t .within) in whole-square p (rw e at (t .placed))

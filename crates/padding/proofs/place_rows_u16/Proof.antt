@@ -1,64 +1,31 @@
 -- `padding::place_rows_u16` meets its contract. The invariant: the rows before `row` are in place. Assumes nothing.
-use mathlib.Core.Path.{_≡_, sym, _∙_}
-use Prim.Native.Nat.{_≤_, _-_}
+use Prim.Native.Nat.{_-_}
 use native.Mathlib.Omega.{arith}
-use denote.Ref.{now}
 use borrow.Author.Needs.{needs}
-use Rattle.padding.proofs.Lengths.{product}
-use Rattle.padding.proofs.Square.{Placed, placed-none, row-room, room, row-length, next, finish}
+use Rattle.padding.proofs.Square.{Before, none, same-length, row-room, row-short, fits, next, finish}
 use Rattle.padding.proofs.place_rows_u16.Statement.{statement}
 use Rattle.padding.proofs.place_rows_u16.Tie as tie
 
 abbrev Inv-loop : tie.InvT-loop
-Inv-loop rows cols u16-data padded₀ row₀ padded row = (row ≤ rows) × Placed rows cols u16-data padded row
+Inv-loop rows cols u16-data padded₀ row₀ padded row = Before rows cols u16-data padded row
 
 abbrev μ-loop : tie.MeasureT-loop
 μ-loop rows cols u16-data padded₀ row₀ padded row = rows - row
 
-loop-holds : tie.Need-loop-holds Inv-loop μ-loop
-loop-holds c = (omega arith, placed-none _ _ _ _ (c .before .before .pre .3))
-
-mul-src-offset : tie.Need-mul-src-offset Inv-loop μ-loop
-mul-src-offset c = omega (arith, product (c .before .loop .row) (c .before .before .before .before .args .cols) (omega arith) (omega arith))
-
-add-copy-row-u16 : tie.Need-add-copy-row-u16 Inv-loop μ-loop
-add-copy-row-u16 c = omega (arith, product (c .before .before .loop .row) (c .before .before .before .before .before .args .cols) (omega arith) (omega arith))
-
-mul-copy-row-u16 : tie.Need-mul-copy-row-u16 Inv-loop μ-loop
-mul-copy-row-u16 c = omega (arith, product (c .before .before .loop .row) (c .before .before .before .before .before .args .cols) (omega arith) (omega arith))
-
-part-copy-row-u16-end : tie.Need-part-copy-row-u16-end Inv-loop μ-loop
-part-copy-row-u16-end c = omega (arith, row-room (c .before .before .before .before .before .args .rows) (c .before .before .before .before .before .args .cols) (c .before .before .loop .row) (omega arith))
-
-copy-row-u16-requires : tie.Need-copy-row-u16-requires Inv-loop μ-loop
-copy-row-u16-requires c κs =
-    let l = c .before .before .before .before in
-    let f = l .before .before .before in
-    let a = f .args in
-    let w = row-length (a .rows) (a .cols) (now (a .u16-data)) (f .pre .2) (l .loop .row) (omega arith) in
-    omega (arith, room (a .rows) (a .cols) (l .loop .row) (omega arith), l .loop .inv .1 .0, c .before .before .row-start .ensures)
-
 loop-again : tie.Need-loop-again Inv-loop μ-loop
 loop-again c =
-    let l = c .before .before .before .before .before .before .before in
-    let f = l .before .before .before in
-    let a = f .args in (
-      omega arith,
-      next (a .rows) (a .cols) (now (a .u16-data)) (f .pre .2) (l .loop .row) (omega arith) (c .before .before .before .before .before .row-start .result) (l .loop .padded) _
-          (c .before .before .before .before .before .row-start .ensures) (l .loop .inv .1) (c .before .before .copy-row-u16 .ensures),
-    )
-
-same-length : tie.Need-same-length Inv-loop μ-loop
-same-length c = let f = c .before .before .before .before in c .before .loop .inv .1 .0 ∙ sym (placed-none (f .args .rows) (f .args .cols) (now (f .args .u16-data)) _ (f .pre .3) .0)
-
-returns : tie.Need-returns Inv-loop μ-loop
-returns c =
-    let a = c .before .before .before .before .args in
-    let e : c .before .loop .row ≡ a .rows = omega arith in
-    finish (a .rows) (a .cols) (now (a .u16-data)) _ (rw e at (c .before .loop .inv .1))
+    let r = c .before .before .before .before .before in
+    let l = r .before .before in
+    next _ _ _ (l .before .before .before .pre .2) _ (r .before .loop-test .taken) _ _ (r .row-start .ensures) (l .loop .inv) _ (c .before .before .copy-row-u16 .ensures)
 
 pub place-rows-u16-spec : {M : Type 1} → statement M
 place-rows-u16-spec =
     tie.close
-    (tie.spec Inv-loop μ-loop loop-holds mul-src-offset (λ c κs. search needs) add-copy-row-u16 mul-copy-row-u16 (λ c. search needs) (λ c. search needs) part-copy-row-u16-end copy-row-u16-requires (λ c. omega arith)
-    (λ c. omega arith) loop-again same-length returns)
+    (tie.spec Inv-loop μ-loop (λ c. none _ _ _ _ (c .before .before .pre .3))
+    (λ c. let s = c .before .before .before .before in omega (arith, row-short _ _ _ (c .loop-test .taken) (s .pre .0) (s .pre .1))) (λ c κs. search needs)
+    (λ c. let b = c .before in let s = b .before .before .before .before in omega (arith, row-short _ _ _ (b .loop-test .taken) (s .pre .0) (s .pre .1)))
+    (λ c. let b = c .before in let s = b .before .before .before .before in omega (arith, row-short _ _ _ (b .loop-test .taken) (s .pre .0) (s .pre .1)))
+    (λ c. search needs) (λ c. search needs) (λ c. let s = c .before .before .before .before .before in omega (arith, row-room _ (s .args .cols) _ (c .before .loop-test .taken)))
+    (λ c κs. let r = c .before .before in let l = r .before .before in fits _ _ _ (l .before .before .before .pre .2) _ (r .before .loop-test .taken) _ _ (r .row-start .ensures) (l .loop .inv))
+    (λ c. omega arith) (λ c. omega arith) loop-again
+    (λ c. let l = c .before in same-length _ _ _ _ _ _ (l .before .before .before .pre .3) (l .loop .inv)) (λ c. finish _ _ _ _ _ (c .before .loop .inv) (c .loop-test .left)))
