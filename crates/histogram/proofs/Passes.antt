@@ -1,6 +1,6 @@
 -- A pass over a band that refuses a bad valid dB and folds the others: what holds at place i, and one turn of the loop. Assumes nothing.
 use mathlib.Core.Path.{_≡_, refl, sym, ap, _∙_}
-use mathlib.Core.Bool.{true, false}
+use mathlib.Core.Bool.{Bool, true, false}
 use mathlib.Core.List.{List, [], _∷_}
 use Prim.Native.Nat.{ℕ, _+_, _≤_, _<_}
 use native.Mathlib.Omega.{arith}
@@ -76,24 +76,27 @@ pub record Along (fold : Moments → List Float → Moments) (m : List ℕ) (d :
   pub good : decibelsRefused (pixels m d) ≡ any decibelRefused (drop i (pixels m d))
   pub rest : fold noMoments (validOf (pixels m d)) ≡ fold s (validOf (drop i (pixels m d)))
 
-module _ {step : Moments → Float → Moments} {fold : Moments → List Float → Moments} (f : Fold step fold) (m : List ℕ) (d : List Float) where
-  pub start : (s : Moments) → s ≡ noMoments → Along fold m d s 0
+module _ {step : Moments → Float → Moments} {fold : Moments → List Float → Moments} (f : Fold step fold) {m : List ℕ} {d : List Float} where
+  pub start : {s : Moments} → s ≡ noMoments → Along fold m d s 0
   unfolding decibelsRefused noMoments
-  start s e = record { place = omega arith; few = omega (arith, ap (λ (t : Moments). t .count) e); good = refl; rest = ap (λ (t : Moments). fold t (validOf (pixels m d))) (sym e) }
+  start e = record { place = omega arith; few = omega (arith, ap (λ (t : Moments). t .count) e); good = refl; rest = ap (λ (t : Moments). fold t (validOf (pixels m d))) (sym e) }
 
-  module _ (s : Moments) (i : ℕ) (a : Along fold m d s i) where
-    pub finish : length d ≤ i → passed (pixels m d) (fold noMoments (validOf (pixels m d))) ≡ Passed s
+  module _ {s : Moments} {i : ℕ} (a : Along fold m d s i) where
+    pub finish : length d ≤ i → Passed s ≡ passed (pixels m d) (fold noMoments (validOf (pixels m d)))
     unfolding passed
     finish h =
         let e = drop-end m d i h in
         let b : decibelsRefused (pixels m d) ≡ false = a .good ∙ ap (any decibelRefused) e ∙ any-none decibelRefused in
         let r : fold noMoments (validOf (pixels m d)) ≡ s = a .rest ∙ ap (λ (ps : List Pixel). fold s (validOf ps)) e ∙ ap (fold s) valid-none ∙ f .nil s in
-        rw b (ap Passed r)
+        rw b (ap Passed (sym r))
 
-    module _ (h : i < length m) (k : i < length d) where
+    module _ (l : length m ≡ length d) (k : i < length d) where
+      here : i < length m
+      here = omega arith
+
       pub skip : getD m i 0 ≡ 0 → Along fold m d s (i + 1)
       skip e =
-          let n = next-off m d i h k e in
+          let n = next-off m d i here k e in
           record {
             place = omega arith;
             few = omega (arith, a .few);
@@ -101,19 +104,20 @@ module _ {step : Moments → Float → Moments} {fold : Moments → List Float �
             rest = a .rest ∙ ap (λ (ps : List Pixel). fold s (validOf ps)) n ∙ ap (fold s) (valid-off (drop (i + 1) (pixels m d)));
           }
 
-      module _ (n : getD m i 0 ≡ 0 → ⊥) where
-        pub bad : decibelRefused (on (getD d i nan)) ≡ true → passed (pixels m d) (fold noMoments (validOf (pixels m d))) ≡ BadDecibel
+      -- by the test t of the value
+      module _ (n : getD m i 0 ≡ 0 → ⊥) {t : Bool} (u : t ≡ decibelRefused (on (getD d i nan))) where
+        pub bad : t ≡ true → BadDecibel ≡ passed (pixels m d) (fold noMoments (validOf (pixels m d)))
         unfolding passed
-        bad e = rw (a .good ∙ ap (any decibelRefused) (next-on m d i h k n) ∙ any-here decibelRefused (on (getD d i nan)) (drop (i + 1) (pixels m d)) e)
+        bad e = rw (a .good ∙ ap (any decibelRefused) (next-on m d i here k n) ∙ any-here decibelRefused (on (getD d i nan)) (drop (i + 1) (pixels m d)) (sym u ∙ e))
 
-        pub take : (s′ : Moments) → decibelRefused (on (getD d i nan)) ≡ false → s′ ≡ step s (getD d i nan) → Along fold m d s′ (i + 1)
-        take s′ e q =
-            let x = next-on m d i h k n in
+        pub take : {s′ : Moments} → t ≡ false → s′ ≡ step s (getD d i nan) → Along fold m d s′ (i + 1)
+        take {s′} e q =
+            let x = next-on m d i here k n in
             let v = getD d i nan in
             record {
               place = omega arith;
               few = omega (arith, a .few, f .counts s v, ap (λ (t : Moments). t .count) q);
-              good = a .good ∙ ap (any decibelRefused) x ∙ any-not-here decibelRefused (on v) (drop (i + 1) (pixels m d)) e;
+              good = a .good ∙ ap (any decibelRefused) x ∙ any-not-here decibelRefused (on v) (drop (i + 1) (pixels m d)) (sym u ∙ e);
               rest = a .rest ∙ ap (λ (ps : List Pixel). fold s (validOf ps)) x ∙ ap (fold s) (valid-on v (drop (i + 1) (pixels m d)))
                   ∙ f .cons s v (validOf (drop (i + 1) (pixels m d))) ∙ ap (λ (t : Moments). fold t (validOf (drop (i + 1) (pixels m d)))) (sym q);
             }

@@ -1,80 +1,38 @@
 -- `stretchByte` rises with the value, whatever the ends. Assumes nothing.
-use mathlib.Core.Path.{_≡_, refl, sym, _∙_, subst}
-use Prim.Native.Nat.{ℕ, _+_, _*_, _/_, _-_, _^_, _≤_, _<_, min, zero-le}
+use mathlib.Core.Path.{_≡_, refl, sym, _∙_}
+use Prim.Native.Nat.{ℕ, _+_, _*_, _^_, _≤_, _<_, min, zero-le}
 use native.Mathlib.Omega.{arith}
-use native.Mathlib.Nat.{add-mul, mul-assoc, mul-comm, mul-left-comm, mul-le-mul-right, mul-one, mul-pos}
-use mathlib.Core.Bool.{Bool, true, false, cond, true≢false}
-use lib.IntN.{pos}
+use native.Mathlib.Nat.{mul-assoc, mul-comm, mul-left-comm, mul-le-mul-right, mul-one, mul-pos}
+use mathlib.Core.Bool.{Bool, true, false, cond}
 use lib.Dec.{T, ltb, lit<}
 use borrow.Author.Tests.{ltb-true}
-use lib.Ieee.{Float, nan, inf, fin, binary32, up, down, round, sub, mul, div, le, ofInt, ofBits}
+use lib.Ieee.{Float, nan, inf, fin, binary32, round, sub, mul, div, le, ofInt, ofBits}
 use lib.Ieee.Back.{round-whole}
 use lib.Ieee.Exact.{HasValue}
-use lib.Ieee.Fits.{down-pos}
-use lib.Ieee.Nearest.{div-mono}
-use lib.Ieee.Order.{round-mono}
 use lib.Ieee.Positive.{num, den, den-pos, positive, positive-finite, between}
 use lib.Ieee.Scale.{finite}
 use Rattle.spec.specs.Floats.{roundAsU64}
 use Rattle.spec.specs.Stretch.{of16, stretchByte}
-use Rattle.numeric.proofs.Order.{plus, less, le→cross, only-top, none}
+use Rattle.numeric.proofs.Order.{plus, less, le→cross}
 use Rattle.numeric.proofs.Round.{Rounds, rounds-le}
+use Rattle.numeric.proofs.Picks.{ofInt-le, roundAsU64-le}
+use Rattle.numeric.proofs.Values.{value-finite, value-plus, value-less}
 use Rattle.numeric.proofs.Ops.{sub-le, mul-le, sub-rounds, div-rounds, num-pos}
 
 abbrev full32 : Float
 full32 = ofBits binary32 0x437f_0000
-
--- ---- rounding
--- a / c to the nearest whole number, and up from halfway
-abbrev halfUp : ℕ → ℕ → ℕ
-halfUp a c = (a * 2 + c) / (c * 2)
-
-half-mono : (a c b d : ℕ) → 0 < c → 0 < d → a * d ≤ b * c → halfUp a c ≤ halfUp b d
-half-mono a c b d C D h = div-mono (a * 2 + c) (c * 2) (b * 2 + d) (d * 2) (mul-pos C (lit< tt)) (mul-pos D (lit< tt)) (wide a c b d h)
-  where
-    wide : (a c b d : ℕ) → a * d ≤ b * c → (a * 2 + c) * (d * 2) ≤ (b * 2 + d) * (c * 2)
-    wide a c b d h = simp (add-mul, mul-assoc, mul-comm, mul-left-comm) (omega (arith, simp (mul-comm) at h))
-
-pub roundAsU64-le : (x y : Float) → T (le x y) → roundAsU64 x ≤ roundAsU64 y
-unfolding roundAsU64 le
-roundAsU64-le nan y h = absurd h
-roundAsU64-le (inf true) y h = zero-le
-roundAsU64-le (inf false) y h = subst (λ (z : Float). 2 ^ 64 - 1 ≤ roundAsU64 z) (sym (only-top y h)) (omega arith)
-roundAsU64-le (fin s m e) nan h = absurd h
-roundAsU64-le (fin s m e) (inf true) h = absurd h
-roundAsU64-le (fin true m e) (inf false) h = zero-le
-roundAsU64-le (fin false m e) (inf false) h = omega arith
-roundAsU64-le (fin true m e) (fin t n d) h = zero-le
-roundAsU64-le (fin false m e) (fin true n d) h =
-    let k = le→cross (fin false m e) (fin true n d) tt tt h in
-    let a : halfUp (m * up e) (down e) ≤ halfUp 0 1 = half-mono (m * up e) (down e) 0 1 (down-pos e) (lit< tt) (nothing (m * up e) (down d) (down-pos d) (omega arith)) in
-    omega arith
-  where
-    nothing : (a c : ℕ) → 0 < c → a * c ≤ 0 → a * 1 ≤ 0 * down e
-    nothing a c C g = let z = none a c C g in omega arith
-roundAsU64-le (fin false m e) (fin false n d) h =
-    let k = le→cross (fin false m e) (fin false n d) tt tt h in
-    let a = half-mono (m * up e) (down e) (n * up d) (down d) (down-pos e) (down-pos d) (omega arith) in
-    omega arith
 
 -- (x - lo) * (255.0 / (hi - lo))
 abbrev scaled : ℕ → ℕ → ℕ → Float
 scaled lo hi x = mul binary32 (sub binary32 (of16 x) (of16 lo)) (div binary32 full32 (sub binary32 (of16 hi) (of16 lo)))
 
 -- ---- whole numbers
-pub ofInt-le : (x y : ℕ) → x ≤ y → T (le (ofInt binary32 (pos x)) (ofInt binary32 (pos y)))
-unfolding ofInt
-ofInt-le x y h = round-mono binary32 x 1 y 1 (lit< tt) (lit< tt) (omega arith)
-
 whole-value : (k : ℕ) → k ≤ 2 ^ 24 → HasValue (of16 k) false k 1
 unfolding ofInt
 whole-value k h = round-whole binary32 false k h
 
 parts : (x : Float) (a : ℕ) → HasValue x false a 1 → T (finite x) × (plus x ≡ a * den x) × (less x ≡ 0)
-parts nan a h = absurd h
-parts (inf s) a h = absurd h
-parts (fin true m e) a h = absurd (true≢false (h .0))
-parts (fin false m e) a h = (tt, sym (mul-one (m * up e)) ∙ h .1, refl)
+parts x a h = (value-finite x a 1 h, sym (mul-one (plus x)) ∙ value-plus x a 1 h, value-less x a 1 h)
 
 -- ---- 2 ^ -9, 1.0, 255.0 and 65535.0, as rounded fractions
 abbrev least32 : Float
@@ -157,7 +115,7 @@ scale-positive lo hi h k =
 rising : (lo hi x y : ℕ) → lo < hi → hi ≤ 65535 → x ≤ y → min (roundAsU64 (scaled lo hi x)) 255 ≤ min (roundAsU64 (scaled lo hi y)) 255
 rising lo hi x y h k g =
     let q = div binary32 full32 (sub binary32 (of16 hi) (of16 lo)) in
-    let a = sub-le binary32 (of16 lo) (parts (of16 lo) lo (whole-value lo (omega arith)) .0) (of16 x) (of16 y) (ofInt-le x y g) in
+    let a = sub-le binary32 (of16 lo) (parts (of16 lo) lo (whole-value lo (omega arith)) .0) (of16 x) (of16 y) (ofInt-le binary32 x y g) in
     let r = roundAsU64-le (scaled lo hi x) (scaled lo hi y) (mul-le binary32 q (scale-positive lo hi h k) (sub binary32 (of16 x) (of16 lo)) (sub binary32 (of16 y) (of16 lo)) a) in
     omega arith
 
@@ -169,12 +127,3 @@ stretch-rises lo hi x y k g = go (ltb lo hi) refl
     go : (t : Bool) → ltb lo hi ≡ t → cond t (min (roundAsU64 (scaled lo hi x)) 255) 0 ≤ cond t (min (roundAsU64 (scaled lo hi y)) 255) 0
     go true e = rising lo hi x y (ltb-true lo hi e) k g
     go false e = zero-le
-
--- a stretched value is a byte
-pub stretch-byte : (lo hi x : ℕ) → stretchByte lo hi x ≤ 255
-unfolding stretchByte
-stretch-byte lo hi x = go (ltb lo hi)
-  where
-    go : (t : Bool) → cond t (min (roundAsU64 (scaled lo hi x)) 255) 0 ≤ 255
-    go true = omega arith
-    go false = zero-le

@@ -40,13 +40,4 @@ returns-3 c =
 
 pub compute-histogram-stats-spec : {M : Type 1} → statement M
 compute-histogram-stats-spec =
-    tie.close
-    (tie.spec
-    (λ c κs. search needs)
-    returns
-    first-pass-requires
-    (λ c. search needs)
-    (λ c. search needs)
-    returns-2
-    summary-requires
-    returns-3)
+    tie.close (tie.spec (λ c κs. search needs) returns first-pass-requires (λ c. search needs) (λ c. search needs) returns-2 summary-requires returns-3)

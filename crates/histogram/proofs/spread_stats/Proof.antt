@@ -47,18 +47,6 @@ returns c =
 pub spread-stats-spec : {M : Type 1} → statement M
 spread-stats-spec =
     tie.close
-    (tie.spec
-    (λ c. search needs)
-    (λ c κs. search needs)
-    estimate-percentile-requires
-    estimate-percentile-requires-2
-    estimate-percentile-requires-3
-    estimate-percentile-requires-4
-    estimate-percentile-requires-5
-    estimate-percentile-requires-6
-    estimate-percentile-requires-7
-    estimate-percentile-requires-8
-    estimate-percentile-requires-9
-    estimate-percentile-requires-10
-    estimate-percentile-requires-11
-    returns)
+    (tie.spec (λ c. search needs) (λ c κs. search needs) estimate-percentile-requires estimate-percentile-requires-2 estimate-percentile-requires-3 estimate-percentile-requires-4
+    estimate-percentile-requires-5 estimate-percentile-requires-6 estimate-percentile-requires-7 estimate-percentile-requires-8 estimate-percentile-requires-9
+    estimate-percentile-requires-10 estimate-percentile-requires-11 returns)

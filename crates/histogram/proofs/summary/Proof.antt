@@ -23,13 +23,4 @@ returns-2 c =
 
 pub summary-spec : {M : Type 1} → statement M
 summary-spec =
-    tie.close
-    (tie.spec
-    (λ c κs. search needs)
-    (λ c κs. search needs)
-    returns
-    (λ c. search needs)
-    fill-bins-requires
-    (λ c. search needs)
-    (λ c κs. search needs)
-    returns-2)
+    tie.close (tie.spec (λ c κs. search needs) (λ c κs. search needs) returns (λ c. search needs) fill-bins-requires (λ c. search needs) (λ c κs. search needs) returns-2)

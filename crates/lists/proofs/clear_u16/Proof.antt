@@ -13,8 +13,11 @@ Inv-loop values₀ i₀ values i = Filled 0 (length values₀) values i
 abbrev μ-loop : tie.MeasureT-loop
 μ-loop values₀ i₀ values i = length values₀ - i
 
+loop-again : tie.Need-loop-again Inv-loop μ-loop
+loop-again c = step 0 _ _ _ (omega arith) (c .before .loop .inv)
+
 pub clear-u16-spec : {M : Type 1} → statement M
 clear-u16-spec =
     tie.close
     (tie.spec Inv-loop μ-loop (λ c. (omega arith, refl, refl)) (λ c. omega arith) (λ c. omega arith) (λ c. omega arith) (λ c. omega arith)
-    (λ c. step 0 _ _ _ (omega arith) (c .before .loop .inv)) (λ c. omega arith) (λ c. finish 0 _ _ _ (c .before .loop .inv) (c .loop-test .left)))
+    loop-again (λ c. omega arith) (λ c. finish 0 _ _ _ (c .before .loop .inv) (c .loop-test .left)))

@@ -12,6 +12,4 @@ use Rattle.std.proofs.num.truncating_f32_to_u64.Reads as truncating-f32-to-u64-
 pub f32-as-u64-spec : {M : Type 1} → statement M
 unfolding ofBits neg
 f32-as-u64-spec =
-    tie.close
-    (tie.spec (λ c κs. (holds (c .before .if1 .taken), holds (c .if2 .taken))) (λ c. search needs) (λ c. high _ (c .before .if1 .taken) (c .if2 .left))
-    (λ c. low _ (c .if1 .left)))
+    tie.close (tie.spec (λ c κs. (holds (c .before .if1 .taken), holds (c .if2 .taken))) (λ c. search needs) (λ c. high _ (c .before .if1 .taken) (c .if2 .left)) (λ c. low _ (c .if1 .left)))

@@ -35,12 +35,4 @@ returns-4 c =
 
 pub shape-refusal-spec : {M : Type 1} → statement M
 shape-refusal-spec =
-    tie.close
-    (tie.spec
-    (λ c κs. search needs)
-    returns
-    lengths-refused-requires
-    returns-2
-    (λ c κs. search needs)
-    returns-3
-    returns-4)
+    tie.close (tie.spec (λ c κs. search needs) returns lengths-refused-requires returns-2 (λ c κs. search needs) returns-3 returns-4)

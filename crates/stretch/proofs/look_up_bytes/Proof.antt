@@ -1,10 +1,10 @@
 -- `stretch::look_up_bytes` meets its contract. The invariant: the bytes before i are replaced, the others as they were. Assumes nothing.
-use mathlib.Core.Path.{refl, _∙_}
+use mathlib.Core.Path.{refl}
 use Prim.Native.Nat.{_-_}
 use native.Mathlib.Omega.{arith}
 use denote.Ref.{now}
-use lib.ListN.{length, getD, length-set}
-use Rattle.stretch.proofs.InPlace.{Placed, placed-step, placed}
+use lib.ListN.{length, getD}
+use Rattle.stretch.proofs.InPlace.{Placed, next, finish}
 use Rattle.stretch.proofs.look_up_bytes.Statement.{statement}
 use Rattle.stretch.proofs.look_up_bytes.Tie as tie
 
@@ -14,32 +14,20 @@ Inv-loop bytes₀ table i₀ bytes i = Placed (λ x. getD table x 0) 0 bytes₀ 
 abbrev μ-loop : tie.MeasureT-loop
 μ-loop bytes₀ table i₀ bytes i = length bytes₀ - i
 
-loop-holds : tie.Need-loop-holds Inv-loop μ-loop
-loop-holds c = (omega arith, refl, refl, refl)
-
-cast-x : tie.Need-cast-x Inv-loop μ-loop
-cast-x c = omega (arith, c .slice-known .given (c .before .before .loop .i))
-
-element-copy-out-bytes : tie.Need-element-copy-out-bytes Inv-loop μ-loop
-element-copy-out-bytes c = omega (arith, c .slice-known .given (c .before .before .loop .i))
-
 loop-again : tie.Need-loop-again Inv-loop μ-loop
 loop-again c =
     let l = c .before .before .before in
     let a = l .before .args in
-    let b = l .loop .bytes in
-    let x = getD (now (a .table)) (getD b (l .loop .i) 0) 0 in
-    let s = placed-step (λ x. getD (now (a .table)) x 0) 0 (now (a .bytes)) b (l .loop .i) x (omega arith) (l .loop .inv .1) refl (l .loop .inv .2) (l .loop .inv .3) in (
-      omega (arith, length-set b (l .loop .i) x),
-      length-set b (l .loop .i) x ∙ l .loop .inv .1,
-      s .0,
-      s .1,
-    )
+    next (λ x. getD (now (a .table)) x 0) 0 (now (a .bytes)) (l .loop .bytes) (l .loop .i) _ (omega arith) refl (l .loop .inv)
 
 returns : tie.Need-returns Inv-loop μ-loop
 returns c =
-    let a = c .before .before .args in
-    placed (λ x. getD (now (a .table)) x 0) 0 (now (a .bytes)) (c .before .loop .bytes) (c .before .loop .i) (c .before .loop .inv) (c .loop-test .left)
+    let l = c .before in
+    let a = l .before .args in
+    finish (λ x. getD (now (a .table)) x 0) 0 (now (a .bytes)) (l .loop .bytes) (l .loop .i) (l .loop .inv) (c .loop-test .left)
 
 pub look-up-bytes-spec : {M : Type 1} → statement M
-look-up-bytes-spec = tie.close (tie.spec Inv-loop μ-loop loop-holds (λ c. omega arith) cast-x element-copy-out-bytes (λ c. omega arith) (λ c. omega arith) (λ c. omega arith) loop-again (λ c. omega arith) returns)
+look-up-bytes-spec =
+    tie.close
+    (tie.spec Inv-loop μ-loop (λ c. (omega arith, refl, refl, refl)) (λ c. omega arith) (λ c. omega (arith, c .slice-known .given (c .before .before .loop .i)))
+    (λ c. omega (arith, c .slice-known .given (c .before .before .loop .i))) (λ c. omega arith) (λ c. omega arith) (λ c. omega arith) loop-again (λ c. omega arith) returns)

@@ -15,12 +15,4 @@ returns-2 c = rw (le-ltb _ _ (c .if1 .left))
 
 pub stretch-byte-spec : {M : Type 1} → statement M
 stretch-byte-spec =
-    tie.close
-    (tie.spec
-    (λ c. search needs)
-    (λ c. search needs)
-    (λ c. search needs)
-    (λ c. search needs)
-    (λ c κs. search needs)
-    returns
-    returns-2)
+    tie.close (tie.spec (λ c. search needs) (λ c. search needs) (λ c. search needs) (λ c. search needs) (λ c κs. search needs) returns returns-2)

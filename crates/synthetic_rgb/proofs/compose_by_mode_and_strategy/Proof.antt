@@ -48,11 +48,4 @@ returns-2 c =
 
 pub compose-by-mode-and-strategy-spec : {M : Type 1} → statement M
 compose-by-mode-and-strategy-spec =
-    tie.close
-    (tie.spec
-    (λ c κs. search needs)
-    (λ c κs. search needs)
-    (λ c. search needs)
-    returns
-    (λ c. search needs)
-    returns-2)
+    tie.close (tie.spec (λ c κs. search needs) (λ c κs. search needs) (λ c. search needs) returns (λ c. search needs) returns-2)

@@ -16,12 +16,4 @@ returns c = rw colour-plain at (c .before .before .colours .ensures)
 
 pub create-synthetic-rgb-spec : {M : Type 1} → statement M
 create-synthetic-rgb-spec =
-    tie.close
-    (tie.spec
-    (λ c κs. search needs)
-    (λ c κs. search needs)
-    (λ c κs. search needs)
-    (λ c. search needs)
-    colours-requires
-    (λ c. search needs)
-    returns)
+    tie.close (tie.spec (λ c κs. search needs) (λ c κs. search needs) (λ c κs. search needs) (λ c. search needs) colours-requires (λ c. search needs) returns)

@@ -28,12 +28,4 @@ returns-4 c =
 
 pub create-synthetic-rgb-by-mode-and-strategy-spec : {M : Type 1} → statement M
 create-synthetic-rgb-by-mode-and-strategy-spec =
-    tie.close
-    (tie.spec
-    returns
-    returns-2
-    (λ c. search needs)
-    returns-3
-    (λ c κs. search needs)
-    (λ c. search needs)
-    returns-4)
+    tie.close (tie.spec returns returns-2 (λ c. search needs) returns-3 (λ c κs. search needs) (λ c. search needs) returns-4)

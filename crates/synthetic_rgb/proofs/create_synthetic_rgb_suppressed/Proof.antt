@@ -34,14 +34,5 @@ returns c =
 pub create-synthetic-rgb-suppressed-spec : {M : Type 1} → statement M
 create-synthetic-rgb-suppressed-spec =
     tie.close
-    (tie.spec
-    (λ c κs. search needs)
-    (λ c. search needs)
-    red-above-table-requires
-    (λ c. search needs)
-    green-above-table-requires
-    (λ c κs. search needs)
-    (λ c. search needs)
-    colours-requires
-    (λ c. search needs)
-    returns)
+    (tie.spec (λ c κs. search needs) (λ c. search needs) red-above-table-requires (λ c. search needs) green-above-table-requires (λ c κs. search needs) (λ c. search needs) colours-requires
+    (λ c. search needs) returns)

@@ -1,5 +1,5 @@
 -- `histogram::moments::extremes` meets its contract. Assumes nothing.
-use mathlib.Core.Path.{sym, _∙_}
+use mathlib.Core.Path.{_∙_}
 use mathlib.Core.Logic.{⊎-elim}
 use Prim.Native.Nat.{_-_}
 use native.Mathlib.Omega.{arith}
@@ -17,48 +17,25 @@ Inv-loop db valid-mask m₀ i₀ m i = Along extremesFrom valid-mask db m i
 abbrev μ-loop : tie.MeasureT-loop
 μ-loop db valid-mask m₀ i₀ m i = length db - i
 
-loop-holds : tie.Need-loop-holds Inv-loop μ-loop
-loop-holds c = start extremes-fold _ _ _ (c .no-moments .ensures)
-
 returns : tie.Need-returns Inv-loop μ-loop
 unfolding extremes
 returns c =
-    let l = c .before .before .before .before .before .before in
-    let a = l .before .before .before .before .args in
-    sym (bad extremes-fold (a .valid-mask .now) (a .db .now) (l .loop .m) (l .loop .i) (l .loop .inv) (omega arith) (omega arith) (c .before .before .before .if1 .taken)
-    (sym (c .before .decibel-refused .ensures) ∙ c .if2 .taken))
+    let t = c .before .before .before in
+    let l = t .before .before .before in
+    bad extremes-fold (l .loop .inv) (omega arith) (omega arith) (t .if1 .taken) (c .before .decibel-refused .ensures) (c .if2 .taken)
 
 loop-again : tie.Need-loop-again Inv-loop μ-loop
 loop-again c =
     let l = c .before .before .before in
-    let a = l .before .before .before .before .args in
-    ⊎-elim
-    (λ w. take extremes-fold (a .valid-mask .now) (a .db .now) (l .loop .m) (l .loop .i) (l .loop .inv) (omega arith) (omega arith) (w .0 .taken) _ (sym (w .2 .ensures) ∙ w .3 .left) (w .5 ∙ w .4 .ensures))
-    (λ w. rw (w .1) (skip extremes-fold (a .valid-mask .now) (a .db .now) (l .loop .m) (l .loop .i) (l .loop .inv) (omega arith) (omega arith) (w .0 .left)))
-    (c .if1 .came)
+    ⊎-elim (λ w. take extremes-fold (l .loop .inv) (omega arith) (omega arith) (w .0 .taken) (w .2 .ensures) (w .3 .left) (w .5 ∙ w .4 .ensures))
+    (λ w. rw (w .1) (skip extremes-fold (l .loop .inv) (omega arith) (omega arith) (w .0 .left))) (c .if1 .came)
 
 returns-2 : tie.Need-returns-2 Inv-loop μ-loop
 unfolding extremes
-returns-2 c =
-    let l = c .before in
-    let a = l .before .before .before .before .args in
-    sym (finish extremes-fold (a .valid-mask .now) (a .db .now) (l .loop .m) (l .loop .i) (l .loop .inv) (omega arith))
+returns-2 c = finish extremes-fold (c .before .loop .inv) (omega arith)
 
 pub extremes-spec : {M : Type 1} → statement M
 extremes-spec =
     tie.close
-    (tie.spec
-    Inv-loop
-    μ-loop
-    (λ c κs. search needs)
-    loop-holds
-    (λ c. search needs)
-    (λ c. search needs)
-    (λ c. search needs)
-    (λ c κs. search needs)
-    returns
-    (λ c κs. search needs)
-    (λ c. search needs)
-    (λ c. search needs)
-    loop-again
-    returns-2)
+    (tie.spec Inv-loop μ-loop (λ c κs. search needs) (λ c. start extremes-fold (c .no-moments .ensures)) (λ c. search needs) (λ c. search needs) (λ c. search needs) (λ c κs. search needs) returns
+    (λ c κs. search needs) (λ c. search needs) (λ c. search needs) loop-again returns-2)

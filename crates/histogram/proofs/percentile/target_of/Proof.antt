@@ -15,12 +15,4 @@ returns-3 c = target-last _ _ _ (c .before .before .f64-as-u64 .ensures) (c .if2
 
 pub target-of-spec : {M : Type 1} → statement M
 target-of-spec =
-    tie.close
-    (tie.spec
-    (λ c. search needs)
-    (λ c κs. search needs)
-    returns
-    (λ c. search needs)
-    (λ c. search needs)
-    returns-2
-    returns-3)
+    tie.close (tie.spec (λ c. search needs) (λ c κs. search needs) returns (λ c. search needs) (λ c. search needs) returns-2 returns-3)

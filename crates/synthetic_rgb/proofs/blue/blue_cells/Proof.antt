@@ -54,14 +54,16 @@ loop-again c =
     let t = s .args .thresholds .now in
     let r = s .pre .0 .reds .right (l .i % 256) (omega arith) in
     let g = s .pre .0 .greens .right (l .i / 256) (omega arith) in
-    let rank : Rank t (redOf k (l .i % 256) + epsilon k) (greenOf k (l .i / 256) + epsilon k) (c .before .place-from .result) = rw (r, g) at (c .before .place-from .ensures) in
-    (omega arith, simp length-set (omega arith),
-     λ p.
-       let e1 : (l .i + 1) % 256 - 1 ≡ l .i % 256 = omega arith in
-       let e2 : (l .i + 1) / 256 ≡ l .i / 256 = omega arith in
-       rw (e1, e2) (rank-reached rank),
-     stored (λ (j : ℕ) (b : ℕ). b ≡ blueOf k (j % 256) (j / 256)) (l .cells) (l .i) (c .blue-at .result) (omega arith) (l .inv .3)
-     (c .blue-at .ensures ∙ blue-is k t (l .i % 256) (l .i / 256) (c .before .place-from .result) (s .pre .0 .ratios) rank))
+    let rank : Rank t (redOf k (l .i % 256) + epsilon k) (greenOf k (l .i / 256) + epsilon k) (c .before .place-from .result) = rw (r, g) at (c .before .place-from .ensures) in (
+      omega arith,
+      simp length-set (omega arith),
+      λ p.
+          let e1 : (l .i + 1) % 256 - 1 ≡ l .i % 256 = omega arith in
+          let e2 : (l .i + 1) / 256 ≡ l .i / 256 = omega arith in
+          rw (e1, e2) (rank-reached rank),
+      stored (λ (j : ℕ) (b : ℕ). b ≡ blueOf k (j % 256) (j / 256)) (l .cells) (l .i) (c .blue-at .result) (omega arith) (l .inv .3)
+          (c .blue-at .ensures ∙ blue-is k t (l .i % 256) (l .i / 256) (c .before .place-from .result) (s .pre .0 .ratios) rank),
+    )
 
 returns : tie.Need-returns Inv-loop μ-loop
 returns c =
@@ -69,28 +71,13 @@ returns c =
     record {
       sized = l .inv .1;
       right = λ v1 v2 h1 h2.
-        let e1 : (256 * v2 + v1) % 256 ≡ v1 = omega arith in
-        let e2 : (256 * v2 + v1) / 256 ≡ v2 = omega arith in
-        rw (e1, e2) at (l .inv .3 (256 * v2 + v1) (omega arith))
+          let e1 : (256 * v2 + v1) % 256 ≡ v1 = omega arith in
+          let e2 : (256 * v2 + v1) / 256 ≡ v2 = omega arith in
+          rw (e1, e2) at (l .inv .3 (256 * v2 + v1) (omega arith));
     }
 
 pub blue-cells-spec : {M : Type 1} → statement M
 blue-cells-spec =
     tie.close
-    (tie.spec
-    Inv-loop
-    μ-loop
-    loop-holds
-    (λ c κs. search needs)
-    (λ c. search needs)
-    (λ c. search needs)
-    place-from-requires
-    (λ c. search needs)
-    (λ c. search needs)
-    (λ c κs. search needs)
-    (λ c. search needs)
-    (λ c. search needs)
-    (λ c. search needs)
-    loop-again
-    (λ c. search needs)
-    returns)
+    (tie.spec Inv-loop μ-loop loop-holds (λ c κs. search needs) (λ c. search needs) (λ c. search needs) place-from-requires (λ c. search needs) (λ c. search needs) (λ c κs. search needs)
+    (λ c. search needs) (λ c. search needs) (λ c. search needs) loop-again (λ c. search needs) returns)

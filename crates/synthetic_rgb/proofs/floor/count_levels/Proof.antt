@@ -23,9 +23,12 @@ loop-again : tie.Need-loop-again Inv-loop μ-loop
 loop-again c =
     let l = c .before .before .before .before .loop in
     let band = c .before .before .before .before .before .before .before .args .band .now in
-    let v = c .before .index in
-    (omega arith, simp length-set (omega arith), λ k. omega (arith, added-most (l .histogram) (v .result) (16777216 + l .i) (l .inv .2) k),
-     l .inv .3 ∙ stored-step (l .histogram) band (l .i) (omega arith) ∙ ap (λ (b : ℕ). stored (added b (l .histogram)) (drop (l .i + 1) band)) (sym (v .ensures .0)))
+    let v = c .before .index in (
+      omega arith,
+      simp length-set (omega arith),
+      λ k. omega (arith, added-most (l .histogram) (v .result) (16777216 + l .i) (l .inv .2) k),
+      l .inv .3 ∙ stored-step (l .histogram) band (l .i) (omega arith) ∙ ap (λ (b : ℕ). stored (added b (l .histogram)) (drop (l .i + 1) band)) (sym (v .ensures .0)),
+    )
 
 returns : tie.Need-returns Inv-loop μ-loop
 returns c =
@@ -35,19 +38,5 @@ returns c =
 pub count-levels-spec : {M : Type 1} → statement M
 count-levels-spec =
     tie.close
-    (tie.spec
-    Inv-loop
-    μ-loop
-    (λ c. search needs)
-    (λ c. search needs)
-    (λ c κs. search needs)
-    (λ c. search needs)
-    (λ c. search needs)
-    add-histogram
-    (λ c. search needs)
-    (λ c. search needs)
-    (λ c. search needs)
-    (λ c. search needs)
-    loop-again
-    (λ c. search needs)
-    returns)
+    (tie.spec Inv-loop μ-loop (λ c. search needs) (λ c. search needs) (λ c κs. search needs) (λ c. search needs) (λ c. search needs) add-histogram (λ c. search needs) (λ c. search needs)
+    (λ c. search needs) (λ c. search needs) loop-again (λ c. search needs) returns)

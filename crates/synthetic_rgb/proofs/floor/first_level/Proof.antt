@@ -23,11 +23,13 @@ loop-again c =
     let l = c .before .before .before .before .loop in
     let a = c .before .before .before .before .before .before .args in
     let e = c .before .wide-u32 .ensures .0 in
-    let n : ℕ = l .before + getD (a .histogram .now) (l .level) 0 in
-    (omega arith, omega arith,
-     rw e
-     (l .inv .2 ∙ level-step (a .target) (l .before) (l .level) (a .histogram .now) (omega arith)
-      ∙ ap (λ (b : Bool). cond b (l .level) (firstLevel (a .target) n (l .level + 1) (drop (l .level + 1) (a .histogram .now)))) (lt-leb (a .target) n (rw e at (c .if2 .left)))))
+    let n : ℕ = l .before + getD (a .histogram .now) (l .level) 0 in (
+      omega arith,
+      omega arith,
+      rw e
+          (l .inv .2 ∙ level-step (a .target) (l .before) (l .level) (a .histogram .now) (omega arith)
+          ∙ ap (λ (b : Bool). cond b (l .level) (firstLevel (a .target) n (l .level + 1) (drop (l .level + 1) (a .histogram .now)))) (lt-leb (a .target) n (rw e at (c .if2 .left)))),
+    )
 
 returns : tie.Need-returns Inv-loop μ-loop
 returns c =
@@ -40,24 +42,15 @@ returns-2 c =
     let l = c .before .before .before .before .loop in
     let a = c .before .before .before .before .before .before .args in
     let e = c .before .wide-u32 .ensures .0 in
-    let n : ℕ = l .before + getD (a .histogram .now) (l .level) 0 in
-    (sym
-    (l .inv .2 ∙ level-step (a .target) (l .before) (l .level) (a .histogram .now) (omega arith)
-     ∙ ap (λ (b : Bool). cond b (l .level) (firstLevel (a .target) n (l .level + 1) (drop (l .level + 1) (a .histogram .now)))) (le-leb (a .target) n (rw e at (c .if2 .taken)))), omega arith)
+    let n : ℕ = l .before + getD (a .histogram .now) (l .level) 0 in (
+      sym
+          (l .inv .2 ∙ level-step (a .target) (l .before) (l .level) (a .histogram .now) (omega arith)
+          ∙ ap (λ (b : Bool). cond b (l .level) (firstLevel (a .target) n (l .level + 1) (drop (l .level + 1) (a .histogram .now)))) (le-leb (a .target) n (rw e at (c .if2 .taken)))),
+      omega arith,
+    )
 
 pub first-level-spec : {M : Type 1} → statement M
 first-level-spec =
     tie.close
-    (tie.spec
-    Inv-loop
-    μ-loop
-    (λ c. search needs)
-    (λ c. search needs)
-    (λ c. search needs)
-    (λ c κs. search needs)
-    (λ c. search needs)
-    (λ c. search needs)
-    (λ c. search needs)
-    loop-again
-    returns
-    returns-2)
+    (tie.spec Inv-loop μ-loop (λ c. search needs) (λ c. search needs) (λ c. search needs) (λ c κs. search needs) (λ c. search needs) (λ c. search needs) (λ c. search needs) loop-again
+    returns returns-2)

@@ -28,13 +28,4 @@ returns c =
 
 pub floor-level-spec : {M : Type 1} → statement M
 floor-level-spec =
-    tie.close
-    (tie.spec
-    (λ c. search needs)
-    count-both-requires
-    (λ c. search needs)
-    (λ c. search needs)
-    (λ c. search needs)
-    (λ c κs. search needs)
-    (λ c κs. search needs)
-    returns)
+    tie.close (tie.spec (λ c. search needs) count-both-requires (λ c. search needs) (λ c. search needs) (λ c. search needs) (λ c κs. search needs) (λ c κs. search needs) returns)

@@ -16,12 +16,4 @@ same-length c = simp length-set
 
 pub put-spec : {M : Type 1} → statement M
 put-spec =
-    tie.close
-    (tie.spec
-    (λ c. search needs)
-    (λ c. search needs)
-    slice-write-rgb-data-2
-    (λ c. search needs)
-    slice-write-rgb-data-3
-    same-length
-    (λ c. search needs))
+    tie.close (tie.spec (λ c. search needs) (λ c. search needs) slice-write-rgb-data-2 (λ c. search needs) slice-write-rgb-data-3 same-length (λ c. search needs))
