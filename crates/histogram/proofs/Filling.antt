@@ -1,17 +1,18 @@
 -- The bin of a value lies below 4,096, and one turn of the loop that fills the bins. Assumes nothing.
 use mathlib.Core.Path.{_≡_, refl, sym, ap, _∙_}
 use mathlib.Core.List.{List, [], _∷_, map}
-use Prim.Native.Nat.{ℕ, zero, suc, _+_, _^_, _≤_, _<_, min, suc-le-suc}
+use Prim.Native.Nat.{ℕ, _+_, _^_, _≤_, _<_, min, suc-le-suc}
 use native.Mathlib.Nat.{le-of-lt, min-eq-left, min-eq-right, min-le-right}
 use native.Mathlib.Omega.{arith}
 use lib.Dec.{T}
-use lib.ListN.{length, getD, set, drop, replicate}
+use lib.ListN.{length, getD, drop, replicate}
 use lib.Ieee.{Float, nan, binary64, mul, sub, le, ofBits, toUnsigned}
 use Rattle.spec.specs.Floats.{zero64, one64, clampFloat}
 use Rattle.spec.specs.Bins.{bins64, binOf}
 use Rattle.spec.specs.Lists.{added, stored}
 use Rattle.spec.specs.Pixels.{Pixel, off, on, pixels, validOf}
 use Rattle.spec.specs.Value.{full16}
+use Rattle.lists.proofs.Counts.{zeros-at}
 use Rattle.raster.proofs.Bands.{next-off, next-on, drop-end}
 use Rattle.numeric.proofs.Order.{le-trans}
 use Rattle.numeric.proofs.Ops.{mul-le}
@@ -49,17 +50,6 @@ bin-most least inv v = suc-le-suc (min-le-right _ 4095)
 
 -- ---- one turn
 
-set-most : (h : List ℕ) (b k x : ℕ) (most : ℕ → ℕ) → x ≤ most b → ((j : ℕ) → getD h j 0 ≤ most j) → getD (set h b x) k 0 ≤ most k
-set-most [] b k x most hx f = f k
-set-most (y ∷ ys) zero zero x most hx f = hx
-set-most (y ∷ ys) zero (suc k) x most hx f = f (suc k)
-set-most (y ∷ ys) (suc b) zero x most hx f = f zero
-set-most (y ∷ ys) (suc b) (suc k) x most hx f = set-most ys b k x (λ j. most (suc j)) hx (λ j. f (suc j))
-
--- each bin is at most i above what it was, and at most i + 1 once one of them has one more
-pub added-most : (h h₀ : List ℕ) (b i : ℕ) → ((k : ℕ) → getD h k 0 ≤ getD h₀ k 0 + i) → (k : ℕ) → getD (added b h) k 0 ≤ getD h₀ k 0 + (i + 1)
-added-most h h₀ b i most k = set-most h b k (getD h b 0 + 1) (λ j. getD h₀ j 0 + (i + 1)) (omega (arith, most b)) (λ j. omega (arith, most j))
-
 module _ (f : Float → ℕ) (h : List ℕ) where
   -- the bins with the values of some pixels
   unfoldable pub filled : List Pixel → List ℕ
@@ -91,11 +81,6 @@ module _ (f : Float → ℕ) (h : List ℕ) (m : List ℕ) (d : List Float) (i :
         ∙ ap (λ (j : ℕ). filled f (added j h) (drop (i + 1) (pixels m d))) (sym q)
 
 -- ---- empty bins
-
-zeros-at : (n k : ℕ) → _≡_ {A = ℕ} (getD (replicate n 0) k 0) 0
-zeros-at zero k = refl
-zeros-at (suc n) zero = refl
-zeros-at (suc n) (suc k) = zeros-at n k
 
 pub empty-room : (n : ℕ) → n < 2 ^ 32 → (k : ℕ) → getD (replicate 4096 0) k 0 + n < 2 ^ 32
 empty-room n h k = omega (arith, zeros-at 4096 k)

@@ -1,14 +1,14 @@
--- Counts: cell by cell, by one more value, by storing, their sum, and under a reordering. Assumes nothing.
+-- Counts: cell by cell, by one more value, by storing, their bounds and their sum, and under a reordering. Assumes nothing.
 use mathlib.Core.Path.{_≡_, refl, sym, ap, _∙_}
 use mathlib.Core.Bool.{Bool, cond}
 use mathlib.Core.List.{List, [], _∷_, _++_, List·Permᴰ, List·Permᴰ·nil, List·Permᴰ·cons, List·Permᴰ·swap, List·Permᴰ·trans, Permᴰ·middle, append-nil}
-use Prim.Native.Nat.{ℕ, zero, suc, _+_, _<_}
+use Prim.Native.Nat.{ℕ, zero, suc, _+_, _≤_, _<_}
 use native.Mathlib.Nat.{zero-add, add-left-comm, le-of-suc-le-suc, not-suc-le-zero}
 use native.Mathlib.Omega.{arith}
 use native.Mathlib.Decide.{ℕ-discrete}
 use borrow.Author.Tests.{eq-eqb, ne-eqb}
 use lib.Dec.{eqb}
-use lib.ListN.{length, getD, replicate, length-set, length-replicate, getD-replicate}
+use lib.ListN.{length, getD, set, replicate, length-set, length-replicate, getD-replicate}
 use lib.Seq.{ext-getD, getD-set-same, getD-set-other}
 use Rattle.lists.proofs.Places.{places-length, places-at}
 use Rattle.spec.specs.Lists.{countOf, counts, added, stored, sumOf}
@@ -84,6 +84,33 @@ counts-none n = counts-from-cells n (replicate n 0) [] (length-replicate n 0) (�
 -- counting and storing give the same
 pub stored-counts : (n : ℕ) (xs : List ℕ) → Below n xs → stored (replicate n 0) xs ≡ counts n xs
 stored-counts n xs b = ap (λ (h : List ℕ). stored h xs) (counts-none n) ∙ stored-more n xs [] b ∙ ap (counts n) (append-nil xs)
+
+pub stored-append : (h xs ys : List ℕ) → stored (stored h xs) ys ≡ stored h (xs ++ ys)
+unfolding stored
+stored-append h [] ys = refl
+stored-append h (x ∷ xs) ys = stored-append (added x h) xs ys
+
+-- ---- no count is more than what was there and what was added
+
+set-most : (h : List ℕ) (b x : ℕ) (most : ℕ → ℕ) → x ≤ most b → ((j : ℕ) → getD h j 0 ≤ most j) → (k : ℕ) → getD (set h b x) k 0 ≤ most k
+set-most [] b x most l all k = all k
+set-most (y ∷ h) zero x most l all zero = l
+set-most (y ∷ h) zero x most l all (suc k) = all (suc k)
+set-most (y ∷ h) (suc b) x most l all zero = all zero
+set-most (y ∷ h) (suc b) x most l all (suc k) = set-most h b x (λ j. most (suc j)) l (λ j. all (suc j)) k
+
+pub added-most : (h : List ℕ) (b : ℕ) (most : ℕ → ℕ) → ((j : ℕ) → getD h j 0 ≤ most j) → (k : ℕ) → getD (added b h) k 0 ≤ most k + 1
+added-most h b most all k = set-most h b (getD h b 0 + 1) (λ j. most j + 1) (omega (arith, all b)) (λ j. omega (arith, all j)) k
+
+pub stored-most : (h xs : List ℕ) (m : ℕ) → ((j : ℕ) → getD h j 0 ≤ m) → (k : ℕ) → getD (stored h xs) k 0 ≤ m + length xs
+unfolding stored
+stored-most h [] m all k = omega (arith, all k)
+stored-most h (x ∷ xs) m all k = omega (arith, stored-most (added x h) xs (m + 1) (added-most h x (λ j. m) all) k)
+
+pub zeros-at : (n k : ℕ) → _≡_ {A = ℕ} (getD (replicate n 0) k 0) 0
+zeros-at zero k = refl
+zeros-at (suc n) zero = refl
+zeros-at (suc n) (suc k) = zeros-at n k
 
 -- ---- the sum
 

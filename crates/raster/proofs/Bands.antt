@@ -6,13 +6,15 @@ use Prim.Native.Nat.{ℕ, zero, suc, _+_, _*_, _≤_, _<_}
 use native.Mathlib.Nat.{add-zero, suc-inj, le-of-suc-le-suc, not-suc-le-zero}
 use native.Mathlib.Numerals.{add-one}
 use native.Mathlib.Omega.{arith}
-use borrow.Author.Tests.{ltb-false, eqb-true, not-false}
-use lib.Dec.{ltb, eqb}
+use borrow.Author.Tests.{ltb-false}
+use lib.Dec.{ltb}
 use lib.ListN.{length, getD, drop}
 use lib.Ieee.{Float, nan}
 use Rattle.spec.specs.Answer.{firstOf}
 use Rattle.spec.specs.Lists.{any, countOf}
 use Rattle.spec.specs.Pixels.{Pixel, off, on, pixel, pixels, validOf}
+use Rattle.lists.proofs.Replies.{none-first, none-rest, or-left, or-right, not-unlike}
+use Rattle.lists.proofs.Zip.{zip-length}
 use Rattle.spec.specs.Refusals.{sidesRefused, unlike, lengthsRefused, marksRefused}
 
 -- ---- one pixel
@@ -56,14 +58,11 @@ module _ (m : List ℕ) (d : List Float) (i : ℕ) (h : i < length m) (k : i < l
 -- ---- how many
 
 pub pixels-length : (m : List ℕ) (d : List Float) → length m ≡ length d → length (pixels m d) ≡ length d
-unfolding pixels zipWith
-pixels-length [] d e = e
-pixels-length (x ∷ m) [] e = absurd (omega (arith, e))
-pixels-length (x ∷ m) (v ∷ d) e = ap suc (pixels-length m d (suc-inj e))
+unfolding pixels
+pixels-length m d e = zip-length pixel m d (sym e) ∙ e
 
 pub or-false : (a b : Bool) → (a || b) ≡ false → (a ≡ false) × (b ≡ false)
-or-false true b e = absurd (let z : _≡_ {A = ℕ} 0 1 = cc in omega arith)
-or-false false b e = (refl, e)
+or-false a b e = (or-left a b e, or-right a b e)
 
 -- the number of valid pixels is the number of 1 marks
 pub valid-ones : (m : List ℕ) (d : List Float) → length m ≡ length d → marksRefused m ≡ false → length (validOf (pixels m d)) ≡ countOf 1 m
@@ -81,8 +80,7 @@ unfolding sidesRefused
 sides-accepted rows cols e = let p = or-false (ltb 4096 rows) (ltb 4096 cols) e in (ltb-false 4096 rows (p .0), ltb-false 4096 cols (p .1))
 
 pub named : (n k : ℕ) → unlike n k ≡ false → n ≡ k
-unfolding unlike
-named n k e = eqb-true n k (not-false (eqb n k) e)
+named = not-unlike
 
 pub lengths-accepted : (rows cols : ℕ) (m : List ℕ) (d : List Float) → lengthsRefused rows cols m d ≡ false → (length d ≡ rows * cols) × (length m ≡ rows * cols)
 unfolding lengthsRefused
@@ -92,9 +90,7 @@ lengths-accepted rows cols m d e =
 
 -- no test applies where the answer is 0
 pub none-applies : (k : ℕ) (t : Bool) (ts : List Bool) → firstOf (suc k) (t ∷ ts) ≡ 0 → (t ≡ false) × (firstOf (suc (suc k)) ts ≡ 0)
-unfolding firstOf
-none-applies k true ts e = absurd (omega (arith, e))
-none-applies k false ts e = (refl, e)
+none-applies k t ts e = (none-first k 0 t ts (sym e) (omega arith), sym (none-rest k 0 t ts (sym e) (omega arith)))
 
 -- sides, lengths and marks that are accepted
 pub record Shaped (rows cols : ℕ) (m : List ℕ) (d : List Float) : Type 0 where

@@ -3,7 +3,7 @@ use mathlib.Core.Path.{_≡_, refl, sym, ap, _∙_}
 use mathlib.Core.Bool.{Bool, true, false, _||_, or-assoc, or-false}
 use mathlib.Core.List.{List, [], _∷_}
 use Prim.Native.Nat.{ℕ, suc, _+_, _≤_, _<_, max}
-use native.Mathlib.Nat.{max-eq-left, max-eq-right, max-le, le-of-lt, le-max-left, le-max-right}
+use native.Mathlib.Nat.{max-le, le-max-left, le-max-right}
 use native.Mathlib.Numerals.{add-one}
 use native.Mathlib.Omega.{arith}
 use borrow.Author.Tests.{lt-ltb, le-ltb, ltb-true, ltb-false}
@@ -34,14 +34,9 @@ module _ (xs : List ℕ) (m i : ℕ) where
   unfolding highest
   highest-end a b = let e : i ≡ length xs = omega arith in rw (e, drop-length)
 
-  module _ (h : i < length xs) where
-    pub highest-more : m < getD xs i 0 → highest m (drop i xs) ≡ highest (getD xs i 0) (drop (i + 1) xs)
-    unfolding highest
-    highest-more l = rw (add-one i, drop-cons xs i 0) (ap (λ (k : ℕ). highest k (drop (suc i) xs)) (max-eq-right (le-of-lt l)))
-
-    pub highest-same : getD xs i 0 ≤ m → highest m (drop i xs) ≡ highest m (drop (i + 1) xs)
-    unfolding highest
-    highest-same l = rw (add-one i, drop-cons xs i 0) (ap (λ (k : ℕ). highest k (drop (suc i) xs)) (max-eq-left l))
+  pub highest-next : (k : ℕ) → i < length xs → max m (getD xs i 0) ≡ k → highest m (drop i xs) ≡ highest k (drop (i + 1) xs)
+  unfolding highest
+  highest-next k h e = rw (add-one i, drop-cons xs i 0) (ap (λ (k : ℕ). highest k (drop (suc i) xs)) e)
 
 -- a number above n stands in the list exactly if the greatest is above n
 above : (n m x : ℕ) → ltb n (max m x) ≡ (ltb n m || ltb n x)

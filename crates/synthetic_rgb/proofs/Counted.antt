@@ -1,12 +1,12 @@
 -- Counts by storing, a byte at a time, and the first level that reaches a target, a level at a time. Assumes nothing.
-use mathlib.Core.Path.{_≡_, refl}
+use mathlib.Core.Path.{_≡_}
 use mathlib.Core.Bool.{cond}
 use mathlib.Core.List.{List, [], _∷_, _++_}
-use Prim.Native.Nat.{ℕ, zero, suc, _+_, _≤_, _<_}
+use Prim.Native.Nat.{ℕ, suc, _+_, _≤_, _<_}
 use native.Mathlib.Omega.{arith}
 use native.Mathlib.Numerals.{add-one}
 use lib.Dec.{leb}
-use lib.ListN.{length, drop, set, getD, replicate, drop-of-length-le}
+use lib.ListN.{length, drop, getD, drop-of-length-le}
 use lib.Seq.{drop-cons}
 use Rattle.lists.proofs.Counts.{Below}
 use Rattle.spec.specs.Lists.{added, stored}
@@ -22,27 +22,6 @@ stored-step h xs i l = rw (add-one i, drop-cons xs i 0)
 pub stored-end : (h xs : List ℕ) (i : ℕ) → length xs ≤ i → stored h (drop i xs) ≡ h
 unfolding stored
 stored-end h xs i l = rw (drop-of-length-le xs l)
-
-pub stored-append : (h xs ys : List ℕ) → stored (stored h xs) ys ≡ stored h (xs ++ ys)
-unfolding stored
-stored-append h [] ys = refl
-stored-append h (x ∷ xs) ys = stored-append (added x h) xs ys
-
--- no count is more than what was there and what was added
-set-most : (l : List ℕ) (b k n m : ℕ) → n ≤ m → ((j : ℕ) → getD l j 0 ≤ m) → getD (set l b n) k 0 ≤ m
-set-most [] b k n m h all = all k
-set-most (x ∷ l) zero zero n m h all = h
-set-most (x ∷ l) zero (suc k) n m h all = all (suc k)
-set-most (x ∷ l) (suc b) zero n m h all = all zero
-set-most (x ∷ l) (suc b) (suc k) n m h all = set-most l b k n m h (λ j. all (suc j))
-
-pub added-most : (h : List ℕ) (b m : ℕ) → ((k : ℕ) → getD h k 0 ≤ m) → (k : ℕ) → getD (added b h) k 0 ≤ m + 1
-added-most h b m most k = set-most h b k (getD h b 0 + 1) (m + 1) (omega (arith, most b)) (λ j. omega (arith, most j))
-
-pub stored-most : (h xs : List ℕ) (m : ℕ) → ((k : ℕ) → getD h k 0 ≤ m) → (k : ℕ) → getD (stored h xs) k 0 ≤ m + length xs
-unfolding stored
-stored-most h [] m most k = omega (arith, most k)
-stored-most h (x ∷ xs) m most k = omega (arith, stored-most (added x h) xs (m + 1) (added-most h x m most) k)
 
 -- ---- the first level
 
@@ -65,11 +44,6 @@ below-all n (x ∷ xs) h = (h 0 (omega arith), below-all n xs (λ k l. h (suc k)
 pub below-append : (n : ℕ) (xs ys : List ℕ) → Below n xs → Below n ys → Below n (xs ++ ys)
 below-append n [] ys a b = b
 below-append n (x ∷ xs) ys a b = (a .0, below-append n xs ys (a .1) b)
-
-pub zeros-at : (n k : ℕ) → _≡_ {A = ℕ} (getD (replicate n 0) k 0) 0
-zeros-at zero k = refl
-zeros-at (suc n) zero = refl
-zeros-at (suc n) (suc k) = zeros-at n k
 
 -- the floor of any two bands has its tables
 pub floor-range : (band1 band2 : List ℕ) → (3 ≤ floorLevel band1 band2) × (floorLevel band1 band2 ≤ 40)

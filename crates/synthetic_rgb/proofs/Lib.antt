@@ -1,4 +1,3 @@
 pub mod Rules
 pub mod Painted
 pub mod Counted
-pub mod Modes

@@ -27,4 +27,5 @@ returns c =
 
 pub fill-marks-spec : {M : Type 1} → statement M
 fill-marks-spec =
-    tie.close (tie.spec Inv-loop μ-loop (λ c. (omega arith, c .before .before .pre, refl)) (λ c. omega arith) (λ c. omega arith) (λ c κs. search needs) (λ c. omega arith) (λ c. omega arith) (λ c. omega arith) loop-again (λ c. omega arith) returns)
+    tie.close (tie.spec Inv-loop μ-loop (λ c. (omega arith, c .before .before .pre, refl)) (λ c. omega arith) (λ c. omega arith) (λ c κs. search needs) (λ c. omega arith) (λ c. omega arith)
+    (λ c. omega arith) loop-again (λ c. omega arith) returns)

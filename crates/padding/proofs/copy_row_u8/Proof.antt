@@ -16,6 +16,6 @@ abbrev μ-loop : tie.MeasureT-loop
 pub copy-row-u8-spec : {M : Type 1} → statement M
 copy-row-u8-spec =
     tie.close
-    (tie.spec Inv-loop μ-loop (λ c. copied-none 0 (now (c .args .padded)) (c .args .at) (now (c .args .row))) (λ c. omega arith) (λ c. omega arith) (λ c. omega arith) (λ c. omega arith) (λ c. omega arith)
-    (λ c. let l = c .before .before in copied-step 0 _ _ _ _ _ (l .before .pre) (omega arith) (l .loop .inv)) (λ c. omega arith)
+    (tie.spec Inv-loop μ-loop (λ c. copied-none 0 (now (c .args .padded)) (c .args .at) (now (c .args .row))) (λ c. omega arith) (λ c. omega arith) (λ c. omega arith) (λ c. omega arith)
+    (λ c. omega arith) (λ c. let l = c .before .before in copied-step 0 _ _ _ _ _ (l .before .pre) (omega arith) (l .loop .inv)) (λ c. omega arith)
     (λ c. let a = c .before .before .args in copied-all 0 (now (a .padded)) (a .at) (now (a .row)) _ _ (c .before .loop .inv) (c .loop-test .left)))

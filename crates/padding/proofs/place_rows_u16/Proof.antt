@@ -24,8 +24,8 @@ place-rows-u16-spec =
     (tie.spec Inv-loop μ-loop (λ c. none _ _ _ _ (c .before .before .pre .3))
     (λ c. let s = c .before .before .before .before in omega (arith, row-short _ _ _ (c .loop-test .taken) (s .pre .0) (s .pre .1))) (λ c κs. search needs)
     (λ c. let b = c .before in let s = b .before .before .before .before in omega (arith, row-short _ _ _ (b .loop-test .taken) (s .pre .0) (s .pre .1)))
-    (λ c. let b = c .before in let s = b .before .before .before .before in omega (arith, row-short _ _ _ (b .loop-test .taken) (s .pre .0) (s .pre .1)))
-    (λ c. search needs) (λ c. search needs) (λ c. let s = c .before .before .before .before .before in omega (arith, row-room _ (s .args .cols) _ (c .before .loop-test .taken)))
+    (λ c. let b = c .before in let s = b .before .before .before .before in omega (arith, row-short _ _ _ (b .loop-test .taken) (s .pre .0) (s .pre .1))) (λ c. search needs)
+    (λ c. search needs) (λ c. let s = c .before .before .before .before .before in omega (arith, row-room _ (s .args .cols) _ (c .before .loop-test .taken)))
     (λ c κs. let r = c .before .before in let l = r .before .before in fits _ _ _ (l .before .before .before .pre .2) _ (r .before .loop-test .taken) _ _ (r .row-start .ensures) (l .loop .inv))
-    (λ c. omega arith) (λ c. omega arith) loop-again
-    (λ c. let l = c .before in same-length _ _ _ _ _ _ (l .before .before .before .pre .3) (l .loop .inv)) (λ c. finish _ _ _ _ _ (c .before .loop .inv) (c .loop-test .left)))
+    (λ c. omega arith) (λ c. omega arith) loop-again (λ c. let l = c .before in same-length _ _ _ _ _ _ (l .before .before .before .pre .3) (l .loop .inv))
+    (λ c. finish _ _ _ _ _ (c .before .loop .inv) (c .loop-test .left)))

@@ -4,9 +4,10 @@ use mathlib.Core.Logic.{⊎-elim}
 use Prim.Native.Nat.{ℕ, _+_, _-_, _≤_}
 use native.Mathlib.Omega.{arith}
 use lib.ListN.{length, drop, getD, length-set}
+use Rattle.lists.proofs.Counts.{added-most}
 use Rattle.spec.specs.Bins.{binOf}
 use Rattle.spec.specs.Pixels.{pixels}
-use Rattle.histogram.proofs.Filling.{filled, added-most, filled-end, filled-skip, filled-one}
+use Rattle.histogram.proofs.Filling.{filled, filled-end, filled-skip, filled-one}
 use borrow.Author.Needs.{needs}
 use Rattle.histogram.proofs.bins.fill_bins.Statement.{statement}
 use Rattle.histogram.proofs.bins.fill_bins.Tie as tie
@@ -18,11 +19,6 @@ Inv-loop db valid-mask min-db inv-span hist₀ i₀ hist i =
 
 abbrev μ-loop : tie.MeasureT-loop
 μ-loop db valid-mask min-db inv-span hist₀ i₀ hist i = length db - i
-
-loop-holds : tie.Need-loop-holds Inv-loop μ-loop
-loop-holds c =
-    let s = c .before .before .before in
-    (omega arith, omega arith, λ k. omega arith, refl)
 
 add-hist : tie.Need-add-hist Inv-loop μ-loop
 add-hist c =
@@ -42,7 +38,7 @@ loop-again c =
     rw (w .4) (
       omega arith,
       simp length-set (omega arith),
-      added-most h (a .hist .now) (w .2 .result) i (l .loop .inv .2),
+      λ k. omega (arith, added-most h (w .2 .result) (λ j. getD (a .hist .now) j 0 + i) (l .loop .inv .2) k),
       l .loop .inv .3 ∙ filled-one f h (a .valid-mask .now) (a .db .now) i (omega arith) (omega arith) (w .0 .taken) (w .2 .result) (w .2 .ensures .0),
     ))
     (λ w.
@@ -64,5 +60,5 @@ returns c =
 pub fill-bins-spec : {M : Type 1} → statement M
 fill-bins-spec =
     tie.close
-    (tie.spec Inv-loop μ-loop loop-holds (λ c. search needs) (λ c. search needs) (λ c. search needs) (λ c κs. search needs) (λ c. search needs) (λ c. search needs) add-hist
+    (tie.spec Inv-loop μ-loop (λ c. let s = c .before .before .before in (omega arith, omega arith, λ k. omega arith, refl)) (λ c. search needs) (λ c. search needs) (λ c. search needs) (λ c κs. search needs) (λ c. search needs) (λ c. search needs) add-hist
     (λ c. search needs) (λ c. search needs) (λ c. search needs) (λ c. search needs) loop-again (λ c. search needs) returns)

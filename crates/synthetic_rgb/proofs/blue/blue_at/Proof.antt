@@ -3,13 +3,9 @@ use borrow.Author.Needs.{needs}
 use Rattle.synthetic_rgb.proofs.blue.blue_at.Statement.{statement}
 use Rattle.synthetic_rgb.proofs.blue.blue_at.Tie as tie
 
--- src/blue.rt:67:8
--- src/blue.rt:67:43
--- src/blue.rt:63:1
 returns : tie.Need-returns
 returns c = rw (← c .before .is-dark .ensures, c .if1 .taken)
 
--- src/blue.rt:63:1
 returns-2 : tie.Need-returns-2
 returns-2 c = rw (← c .before .is-dark .ensures, c .if1 .left)
 

@@ -4,19 +4,14 @@ use borrow.Author.Needs.{needs}
 use Rattle.synthetic_rgb.proofs.blue.is_dark.Statement.{statement}
 use Rattle.synthetic_rgb.proofs.blue.is_dark.Tie as tie
 
--- src/blue.rt:47:31
--- src/blue.rt:48:33
--- src/blue.rt:43:1
 returns : tie.Need-returns
 returns c = rw (c .enum-told .given .1)
 
--- src/blue.rt:43:1
 returns-2 : tie.Need-returns-2
 returns-2 c =
     let a = c .before .before .before .before .args in
     rw (c .before .before .kind .given .1, le-leb (a .v1) _ (c .if1 .taken))
 
--- src/blue.rt:43:1
 returns-3 : tie.Need-returns-3
 returns-3 c =
     let a = c .before .before .before .before .args in

@@ -3,11 +3,9 @@ use borrow.Author.Tests.{eq-eqb, ne-eqb}
 use Rattle.synthetic_rgb.proofs.blue.start.Statement.{statement}
 use Rattle.synthetic_rgb.proofs.blue.start.Tie as tie
 
--- src/blue.rt:71:1
 returns : tie.Need-returns
 returns c = rw (eq-eqb _ _ (c .if1 .taken))
 
--- src/blue.rt:71:1
 returns-2 : tie.Need-returns-2
 returns-2 c = rw (ne-eqb _ _ (c .if1 .left))
 

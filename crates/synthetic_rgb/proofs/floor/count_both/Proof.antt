@@ -4,7 +4,7 @@ use mathlib.Core.List.{List}
 use Prim.Native.Nat.{ℕ}
 use native.Mathlib.Omega.{arith}
 use Rattle.spec.specs.Lists.{stored}
-use Rattle.synthetic_rgb.proofs.Counted.{stored-most, stored-append}
+use Rattle.lists.proofs.Counts.{stored-most, stored-append}
 use borrow.Author.Needs.{needs}
 use Rattle.synthetic_rgb.proofs.floor.count_both.Statement.{statement}
 use Rattle.synthetic_rgb.proofs.floor.count_both.Tie as tie

@@ -4,7 +4,8 @@ use Prim.Native.Nat.{ℕ, _+_, _-_, _≤_}
 use native.Mathlib.Omega.{arith}
 use lib.ListN.{length, drop, getD, length-set}
 use Rattle.spec.specs.Lists.{added, stored}
-use Rattle.synthetic_rgb.proofs.Counted.{stored-step, stored-end, added-most}
+use Rattle.lists.proofs.Counts.{added-most}
+use Rattle.synthetic_rgb.proofs.Counted.{stored-step, stored-end}
 use borrow.Author.Needs.{needs}
 use Rattle.synthetic_rgb.proofs.floor.count_levels.Statement.{statement}
 use Rattle.synthetic_rgb.proofs.floor.count_levels.Tie as tie
@@ -26,7 +27,7 @@ loop-again c =
     let v = c .before .index in (
       omega arith,
       simp length-set (omega arith),
-      λ k. omega (arith, added-most (l .histogram) (v .result) (16777216 + l .i) (l .inv .2) k),
+      λ k. omega (arith, added-most (l .histogram) (v .result) (λ j. 16777216 + l .i) (l .inv .2) k),
       l .inv .3 ∙ stored-step (l .histogram) band (l .i) (omega arith) ∙ ap (λ (b : ℕ). stored (added b (l .histogram)) (drop (l .i + 1) band)) (sym (v .ensures .0)),
     )
 

@@ -4,9 +4,9 @@ use mathlib.Core.List.{_++_}
 use Prim.Native.Nat.{ℕ, _+_, _/_, min}
 use native.Mathlib.Omega.{arith}
 use lib.ListN.{length}
-use Rattle.lists.proofs.Counts.{stored-counts}
+use Rattle.lists.proofs.Counts.{stored-counts, zeros-at}
 use Rattle.spec.specs.Colour.{firstLevel, floorLevel}
-use Rattle.synthetic_rgb.proofs.Counted.{below-all, below-append, zeros-at}
+use Rattle.synthetic_rgb.proofs.Counted.{below-all, below-append}
 use borrow.Author.Needs.{needs}
 use Rattle.synthetic_rgb.proofs.floor.floor_level.Statement.{statement}
 use Rattle.synthetic_rgb.proofs.floor.floor_level.Tie as tie
