@@ -4,9 +4,6 @@ use Rattle.histogram.specs.Summary.{spanOf, isFlat}
 use Rattle.histogram.proofs.is_flat.Statement.{statement}
 use Rattle.histogram.proofs.is_flat.Tie as tie
 
-returns : tie.Need-returns
-unfolding isFlat spanOf
-returns c = refl
-
 pub is-flat-spec : {M : Type 1} → statement M
-is-flat-spec = tie.close (tie.spec returns)
+unfolding isFlat spanOf
+is-flat-spec = tie.close (tie.spec (λ c. refl))

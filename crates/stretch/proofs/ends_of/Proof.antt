@@ -16,9 +16,6 @@ Inv-loop xs lo₀ hi₀ i₀ lo hi i = (i ≤ length xs) × (lowest lo (drop i x
 abbrev μ-loop : tie.MeasureT-loop
 μ-loop xs lo₀ hi₀ i₀ lo hi i = length xs - i
 
-loop-holds : tie.Need-loop-holds Inv-loop μ-loop
-loop-holds c = (omega arith, refl, refl)
-
 loop-again : tie.Need-loop-again Inv-loop μ-loop
 loop-again c =
     let l = c .before .before .before .before in
@@ -37,4 +34,7 @@ returns c =
     (sym (ap (lowest (l .loop .lo)) none) ∙ l .loop .inv .1, sym (ap (highest (l .loop .hi)) none) ∙ l .loop .inv .2)
 
 pub ends-of-spec : {M : Type 1} → statement M
-ends-of-spec = tie.close (tie.spec Inv-loop μ-loop loop-holds (λ c. omega arith) (λ c. omega arith) (λ c κs. search needs) (λ c κs. search needs) (λ c. omega arith) (λ c. omega arith) loop-again returns)
+ends-of-spec =
+    tie.close
+    (tie.spec Inv-loop μ-loop (λ c. (omega arith, refl, refl)) (λ c. omega arith) (λ c. omega arith) (λ c κs. search needs) (λ c κs. search needs) (λ c. omega arith) (λ c. omega arith)
+    loop-again returns)

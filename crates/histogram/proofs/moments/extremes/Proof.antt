@@ -30,12 +30,9 @@ loop-again c =
     ⊎-elim (λ w. take extremes-fold (l .loop .inv) (omega arith) (omega arith) (w .0 .taken) (w .2 .ensures) (w .3 .left) (w .5 ∙ w .4 .ensures))
     (λ w. rw (w .1) (skip extremes-fold (l .loop .inv) (omega arith) (omega arith) (w .0 .left))) (c .if1 .came)
 
-returns-2 : tie.Need-returns-2 Inv-loop μ-loop
-unfolding extremes
-returns-2 c = finish extremes-fold (c .before .loop .inv) (omega arith)
-
 pub extremes-spec : {M : Type 1} → statement M
+unfolding extremes
 extremes-spec =
     tie.close
-    (tie.spec Inv-loop μ-loop (λ c κs. search needs) (λ c. start extremes-fold (c .no-moments .ensures)) (λ c. search needs) (λ c. search needs) (λ c. search needs) (λ c κs. search needs) returns
-    (λ c κs. search needs) (λ c. search needs) (λ c. search needs) loop-again returns-2)
+    (tie.spec Inv-loop μ-loop (λ c κs. search needs) (λ c. start extremes-fold (c .no-moments .ensures)) (λ c. search needs) (λ c. search needs) (λ c. search needs) (λ c κs. search needs)
+    returns (λ c κs. search needs) (λ c. search needs) (λ c. search needs) loop-again (λ c. finish extremes-fold (c .before .loop .inv) (omega arith)))

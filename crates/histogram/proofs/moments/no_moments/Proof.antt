@@ -4,9 +4,6 @@ use Rattle.spec.specs.Moments.{noMoments}
 use Rattle.histogram.proofs.moments.no_moments.Statement.{statement}
 use Rattle.histogram.proofs.moments.no_moments.Tie as tie
 
-returns : tie.Need-returns
-unfolding noMoments
-returns c = refl
-
 pub no-moments-spec : {M : Type 1} → statement M
-no-moments-spec = tie.close (tie.spec returns)
+unfolding noMoments
+no-moments-spec = tie.close (tie.spec (λ c. refl))

@@ -9,14 +9,13 @@ use borrow.Author.Needs.{needs}
 use Rattle.synthetic_rgb.proofs.floor.count_both.Statement.{statement}
 use Rattle.synthetic_rgb.proofs.floor.count_both.Tie as tie
 
-count-levels-requires : tie.Need-count-levels-requires
-count-levels-requires c κs = (search needs, search needs, λ k. omega (arith, c .before .before .before .before .pre .3 k))
-
 count-levels-requires-2 : tie.Need-count-levels-requires-2
 count-levels-requires-2 c κs =
-    let s = c .before .before .before .before .before .before .before .before in
-    (search needs, search needs,
-     λ k. rw (c .before .before .before .count-levels .ensures) (omega (arith, stored-most (s .args .histogram .now) (s .args .band1-data .now) 0 (λ j. omega (arith, s .pre .3 j)) k)))
+    let s = c .before .before .before .before .before .before .before .before in (
+      search needs,
+      search needs,
+      λ k. rw (c .before .before .before .count-levels .ensures) (omega (arith, stored-most (s .args .histogram .now) (s .args .band1-data .now) 0 (λ j. omega (arith, s .pre .3 j)) k)),
+    )
 
 returns : tie.Need-returns
 returns c =
@@ -27,4 +26,4 @@ returns c =
 
 pub count-both-spec : {M : Type 1} → statement M
 count-both-spec =
-    tie.close (tie.spec count-levels-requires count-levels-requires-2 (λ c. search needs) returns)
+    tie.close (tie.spec (λ c κs. (search needs, search needs, λ k. omega (arith, c .before .before .before .before .pre .3 k))) count-levels-requires-2 (λ c. search needs) returns)
