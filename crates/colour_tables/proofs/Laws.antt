@@ -77,21 +77,8 @@ unfolding greenAbove
 green-above-dark f v h l = tone-dark 10 11 (255 - f) (v - f) (omega arith) (omega arith) (omega arith) (omega arith)
 
 -- a colour is a byte
-pub red-byte : (v : ℕ) → red v ≤ 255
-unfolding red
-red-byte v = reached-le 10 (255 ^ 7) (510 ^ 10 * v ^ 7) 255
-
-pub green-byte : (v : ℕ) → green v ≤ 255
-unfolding green
-green-byte v = reached-le 10 (255 ^ 9) (510 ^ 10 * v ^ 9) 255
-
-pub red-above-byte : (f v : ℕ) → redAbove f v ≤ 255
-unfolding redAbove
-red-above-byte f v = reached-le 20 ((255 - f) ^ 23) (510 ^ 20 * (v - f) ^ 23) 255
-
-pub green-above-byte : (f v : ℕ) → greenAbove f v ≤ 255
-unfolding greenAbove
-green-above-byte f v = reached-le 10 ((255 - f) ^ 11) (510 ^ 10 * (v - f) ^ 11) 255
+pub level-byte : (p a b : ℕ) → level p a b ≤ 255
+level-byte p a b = reached-le p a b 255
 
 -- so is each blue
 pub blue-only : (v r g : ℕ) → 0 < v → r ≤ 255 → 0 < g → Only 10 (10 ^ 10 * g) (1224 ^ 10 * r) (blue v r g)

@@ -11,7 +11,7 @@ use lib.Dec.{leb, ltb}
 use lib.ListN.{length, take, drop, getD, replicate, length-take, length-drop, length-replicate, getD-replicate}
 use lib.Seq.{paste, ext-getD, getD-take, getD-drop, length-paste}
 use Rattle.spec.specs.Padding.{padCell, padded}
-use Rattle.padding.specs.Offsets.{startOf}
+use Rattle.padding.specs.Offsets.{rowStart}
 use Rattle.padding.proofs.Lengths.{product}
 use Rattle.lists.proofs.Paste.{paste-in, paste-before, paste-after}
 use Rattle.lists.proofs.Places.{places-length, places-at}
@@ -32,7 +32,7 @@ module _ (rows cols : ℕ) where
 
   -- where row r of the raster starts in the square
   abbrev pub start : ℕ → ℕ
-  start r = startOf rows cols r
+  start r = rowStart rows cols r
 
   -- a row of the raster lies within the raster, and a raster with narrow sides is short
   pub row-room : (r : ℕ) → r < rows → r * cols + cols ≤ rows * cols

@@ -8,7 +8,7 @@ ghost use lib.Seq.{paste};
 ghost use Rattle.spec.specs.Answer.{firstOf, number, replyNumber, after};
 ghost use Rattle.spec.specs.Refusals.{sidesRefused, unlike};
 ghost use Rattle.spec.specs.Padding as Padding;
-ghost use Rattle.padding.specs.Offsets.{startOf};
+ghost use Rattle.padding.specs.Offsets.{rowStart};
 use types::Reply;
 
 // The side of the square.
@@ -41,7 +41,7 @@ fn refusal(rows: usize, cols: usize, pixels: usize, padded: usize) -> u8
 // The place in the square at which a row of the raster starts.
 fn row_start(rows: usize, cols: usize, row: usize) -> usize
     requires { ⌜ (rows ≤ 4096) × (cols ≤ 4096) × (row < rows) ⌝ }
-    ensures { λ r. ⌜ r ≡ startOf rows cols row ⌝ }
+    ensures { λ r. ⌜ r ≡ rowStart rows cols row ⌝ }
 {
     let max_dim = larger_side(rows, cols);
     let pad_cols = (max_dim - cols) / 2;

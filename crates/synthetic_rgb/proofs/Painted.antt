@@ -8,7 +8,7 @@ use lib.ListN.{length, take, drop, set, getD, length-set, drop-of-length-le}
 use lib.Seq.{take-suc-set, take-all, drop-cons}
 use Rattle.types.specs.declared.Rgb.{Rgb}
 use Rattle.spec.specs.Colour.{bytesOf}
-use Rattle.synthetic_rgb.specs.Palette.{written}
+use Rattle.synthetic_rgb.specs.Palette.{put}
 
 take-three : (l : List ℕ) (j a b c : ℕ) → j + 2 < length l → take (j + 3) (set (set (set l j a) (j + 1) b) (j + 2) c) ≡ take j l ++ (a ∷ b ∷ c ∷ [])
 take-three l j a b c h =
@@ -33,7 +33,7 @@ module _ (f : ℕ → ℕ → Rgb) (band1 band2 : List ℕ) where
   one-less i h1 h2 c e = rw (add-one i, drop-cons band1 i 0, drop-cons band2 i 0, e)
 
   pub painted-step : (out : List ℕ) (i j : ℕ) (c : Rgb) → i < length band1 → length band2 ≡ length band1 → c ≡ f (getD band1 i 0) (getD band2 i 0) →
-      Painted out i j → Painted (written out j c) (i + 1) (j + 3)
+      Painted out i j → Painted (put out j c) (i + 1) (j + 3)
   painted-step out i j c h e v p =
       let rest : List ℕ = bytesOf (zipWith f (drop (i + 1) band1) (drop (i + 1) band2)) in (
         omega arith,

@@ -11,7 +11,7 @@ use lib.ListN.{length, getD}
 use Rattle.types.specs.declared.Rgb.{Rgb}
 use Rattle.spec.specs.Colour.{red, green, blue, redAbove, greenAbove, blueAbove, plain, suppressed}
 use Rattle.colour_tables.specs.Tables.{Rank, Thresholds}
-use Rattle.colour_tables.proofs.Laws.{red-rises, red-above-rises, red-byte, green-byte, red-above-byte, green-above-byte, green-positive, red-above-dark, green-above-dark}
+use Rattle.colour_tables.proofs.Laws.{red-rises, red-above-rises, level-byte, green-positive, red-above-dark, green-above-dark}
 use Rattle.synthetic_rgb.specs.declared.Composition.{Composition}
 use Rattle.synthetic_rgb.specs.declared.Composition.the-variants.{Plain, Suppressed}
 use Rattle.synthetic_rgb.specs.Palette.{redOf, greenOf, epsilon, scaleOf, isDark, ratioOf, blueOf, colourAt, shown, Palette, Cells, Reached}
@@ -22,14 +22,14 @@ reds-rise Plain l = red-rises l
 reds-rise (Suppressed f) l = red-above-rises f l
 
 reds-byte : (kind : Composition) (v : ℕ) → redOf kind v ≤ 255
-unfolding redOf
-reds-byte Plain v = red-byte v
-reds-byte (Suppressed f) v = red-above-byte f v
+unfolding redOf red redAbove
+reds-byte Plain v = level-byte _ _ _
+reds-byte (Suppressed f) v = level-byte _ _ _
 
 greens-byte : (kind : Composition) (v : ℕ) → greenOf kind v ≤ 255
-unfolding greenOf
-greens-byte Plain v = green-byte v
-greens-byte (Suppressed f) v = green-above-byte f v
+unfolding greenOf green greenAbove
+greens-byte Plain v = level-byte _ _ _
+greens-byte (Suppressed f) v = level-byte _ _ _
 
 -- ---- places
 

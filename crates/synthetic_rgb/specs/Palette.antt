@@ -65,5 +65,5 @@ unfoldable pub shown : List ℕ → List ℕ → List ℕ → ℕ → ℕ → Rg
 shown red green cells v1 v2 = record { r = getD red v1 0; g = getD green v2 0; b = getD cells (256 * v2 + v1) 0 }
 
 -- the bytes of one colour, written from j on
-abbrev pub written : List ℕ → ℕ → Rgb → List ℕ
-written l j c = set (set (set l j (c .r)) (j + 1) (c .g)) (j + 2) (c .b)
+abbrev pub put : List ℕ → ℕ → Rgb → List ℕ
+put l j c = set (set (set l j (c .r)) (j + 1) (c .g)) (j + 2) (c .b)

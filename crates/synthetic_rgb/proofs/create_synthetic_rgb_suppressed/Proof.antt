@@ -25,11 +25,11 @@ colours-requires c κs =
 
 returns : tie.Need-returns
 returns c =
-    let f = c .before .before .before .before .before .before .before .before .before .before in
-    let a = f .before .before .before .before .args in
+    let at-floor = c .before .before .before .before .before .before .before .before .before .before in
+    let a = at-floor .before .before .before .before .args in
     let r = floor-range (a .band1-data .now) (a .band2-data .now) in
-    let e = f .floor-level .ensures in
-    rw (← e, ← colour-suppressed (f .floor-level .result) (omega arith)) (c .before .before .colours .ensures)
+    let e = at-floor .floor-level .ensures in
+    rw (← e, ← colour-suppressed (at-floor .floor-level .result) (omega arith)) (c .before .before .colours .ensures)
 
 pub create-synthetic-rgb-suppressed-spec : {M : Type 1} → statement M
 create-synthetic-rgb-suppressed-spec =

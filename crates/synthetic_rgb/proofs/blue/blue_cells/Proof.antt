@@ -37,16 +37,18 @@ abbrev μ-loop : tie.MeasureT-loop
 
 place-from-requires : tie.Need-place-from-requires Inv-loop μ-loop
 place-from-requires c κs =
-    let l = c .before .before .before .before .loop in
-    let s = c .before .before .before .before .before .before .before in
+    let at-loop = c .before .before .before .before in
+    let l = at-loop .loop in
+    let s = at-loop .before .before .before in
     let r = s .pre .0 .reds .right (l .i % 256) (omega arith) in
     let g = s .pre .0 .greens .right (l .i / 256) (omega arith) in
     rw (r, g, c .before .before .start .ensures) (started (s .args .kind) (s .args .thresholds .now) (l .i) (l .place) (s .pre .0 .ratios .least) (l .inv .2) (l .i % 256) refl)
 
 loop-again : tie.Need-loop-again Inv-loop μ-loop
 loop-again c =
-    let l = c .before .before .before .before .before .before .loop in
-    let s = c .before .before .before .before .before .before .before .before .before in
+    let at-loop = c .before .before .before .before .before .before in
+    let l = at-loop .loop in
+    let s = at-loop .before .before .before in
     let k = s .args .kind in
     let t = s .args .thresholds .now in
     let r = s .pre .0 .reds .right (l .i % 256) (omega arith) in

@@ -21,16 +21,18 @@ abbrev μ-loop : tie.MeasureT-loop
 
 returns : tie.Need-returns Inv-loop μ-loop
 returns c =
+    let at-n = c .before .before .before in
     let d = c .before .wide-u162 .ensures .0 in
-    let n = c .before .before .before .wide-u16 .ensures .0 in
-    let l = c .before .before .before .before .before .before .loop in
+    let n = at-n .wide-u16 .ensures .0 in
+    let l = at-n .before .before .before .loop in
     record { within = l .inv .within; reaches = l .inv .reaches; misses = λ h. rw (d, n) at (c .if1 .taken) }
 
 loop-again : tie.Need-loop-again Inv-loop μ-loop
 loop-again c =
+    let at-n = c .before .before .before in
     let d = c .before .wide-u162 .ensures .0 in
-    let n = c .before .before .before .wide-u16 .ensures .0 in
-    let l = c .before .before .before .before .before .before .loop in
+    let n = at-n .wide-u16 .ensures .0 in
+    let l = at-n .before .before .before .loop in
     let e3 : 2 * (l .k + 1) + 1 ≡ 2 * l .k + 3 = omega arith in
     let e2 : 2 * (l .k + 1) ≡ 2 * l .k + 2 = omega arith in
     record { within = omega arith; reaches = λ h. rw (e3, e2) (rw (d, n) at (c .if1 .left)) }

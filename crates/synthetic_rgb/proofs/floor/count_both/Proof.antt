@@ -11,10 +11,11 @@ use Rattle.synthetic_rgb.proofs.floor.count_both.Tie as tie
 
 count-levels-requires-2 : tie.Need-count-levels-requires-2
 count-levels-requires-2 c κs =
-    let s = c .before .before .before .before .before .before .before .before in (
+    let at-first = c .before .before .before in
+    let s = at-first .before .before .before .before .before in (
       search needs,
       search needs,
-      λ k. rw (c .before .before .before .count-levels .ensures) (omega (arith, stored-most (s .args .histogram .now) (s .args .band1-data .now) 0 (λ j. omega (arith, s .pre .3 j)) k)),
+      λ k. rw (at-first .count-levels .ensures) (omega (arith, stored-most (s .args .histogram .now) (s .args .band1-data .now) 0 (λ j. omega (arith, s .pre .3 j)) k)),
     )
 
 returns : tie.Need-returns

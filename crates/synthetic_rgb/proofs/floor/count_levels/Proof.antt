@@ -19,8 +19,9 @@ abbrev μ-loop : tie.MeasureT-loop
 
 loop-again : tie.Need-loop-again Inv-loop μ-loop
 loop-again c =
-    let l = c .before .before .before .before .loop in
-    let band = c .before .before .before .before .before .before .before .args .band .now in
+    let at-loop = c .before .before .before .before in
+    let l = at-loop .loop in
+    let band = at-loop .before .before .before .args .band .now in
     let v = c .before .index in (
       omega arith,
       simp length-set (omega arith),

@@ -20,8 +20,9 @@ abbrev μ-loop : tie.MeasureT-loop
 
 loop-again : tie.Need-loop-again Inv-loop μ-loop
 loop-again c =
-    let l = c .before .before .before .before .loop in
-    let a = c .before .before .before .before .before .before .args in
+    let at-loop = c .before .before .before .before in
+    let l = at-loop .loop in
+    let a = at-loop .before .before .args in
     let e = c .before .wide-u32 .ensures .0 in
     let n : ℕ = l .before + getD (a .histogram .now) (l .level) 0 in (
       omega arith,
@@ -39,8 +40,9 @@ returns c =
 
 returns-2 : tie.Need-returns-2 Inv-loop μ-loop
 returns-2 c =
-    let l = c .before .before .before .before .loop in
-    let a = c .before .before .before .before .before .before .args in
+    let at-loop = c .before .before .before .before in
+    let l = at-loop .loop in
+    let a = at-loop .before .before .args in
     let e = c .before .wide-u32 .ensures .0 in
     let n : ℕ = l .before + getD (a .histogram .now) (l .level) 0 in (
       sym

@@ -18,13 +18,13 @@ abbrev μ-loop : tie.MeasureT-loop
 loop-again : tie.Need-loop-again Inv-loop μ-loop
 unfolding shown
 loop-again c =
-    let l = c .before .before .before .before .before .before .before .before .before .before .before .before .before .loop in
-    let s = c .before .before .before .before .before .before .before .before .before .before .before .before .before .before .before .before .before .before in
-    let k = c .before .before .before .before .before .before .before .cell .ensures .0 in
-    let e2 = c .before .before .before .before .before .before .before .before .index2 .ensures .0 in
-    let e1 = c .before .before .before .before .before .before .before .before .before .before .index .ensures .0 in
+    let at-cell = c .before .before .before .before .before .before .before in
+    let at-index = at-cell .before .before .before in
+    let at-loop = at-index .before .before .before in
+    let l = at-loop .loop in
+    let s = at-loop .before .before .before .before .before in
     rw (c .before .before .put .ensures)
-    (painted-step (shown (s .args .red .now) (s .args .green .now) (s .args .cells .now)) (s .args .band1-data .now) (s .args .band2-data .now) (l .rgb-data) (l .i) (l .j) _ (omega arith) (s .pre .1) (rw (k, e1, e2)) (l .inv))
+    (painted-step (shown (s .args .red .now) (s .args .green .now) (s .args .cells .now)) (s .args .band1-data .now) (s .args .band2-data .now) (l .rgb-data) (l .i) (l .j) _ (omega arith) (s .pre .1) (rw (at-cell .cell .ensures .0, at-index .index .ensures .0, at-cell .before .index2 .ensures .0)) (l .inv))
 
 returns : tie.Need-returns Inv-loop μ-loop
 returns c =

@@ -17,11 +17,12 @@ abbrev μ-loop : tie.MeasureT-loop
 
 loop-again : tie.Need-loop-again Inv-loop μ-loop
 loop-again c =
-    let l = c .before .before .before .before .before .before .before .before .loop in
-    let s = c .before .before .before .before .before .before .before .before .before .before .before .before .before in
-    let tint = c .before .before .before .before .colour-at in
+    let at-tint = c .before .before .before .before in
+    let at-loop = at-tint .before .before .before .before in
+    let l = at-loop .loop in
+    let s = at-loop .before .before .before .before .before in
     rw (c .before .before .put .ensures)
-    (painted-step (colourAt (s .args .kind)) (s .args .band1-data .now) (s .args .band2-data .now) (l .rgb-data) (l .i) (l .j) (tint .result) (omega arith) (s .pre .1) (tint .ensures) (l .inv))
+    (painted-step (colourAt (s .args .kind)) (s .args .band1-data .now) (s .args .band2-data .now) (l .rgb-data) (l .i) (l .j) (at-tint .colour-at .result) (omega arith) (s .pre .1) (at-tint .colour-at .ensures) (l .inv))
 
 returns : tie.Need-returns Inv-loop μ-loop
 returns c =

@@ -7,13 +7,14 @@ use Rattle.synthetic_rgb.proofs.pixels.colour_at.Tie as tie
 
 returns : tie.Need-returns
 returns c =
-    let a = c .before .before .before .before .before .before .before .args in
-    let e1 = c .before .before .before .before .before .index .ensures .0 in
-    let e2 = c .before .before .before .before .index2 .ensures .0 in
+    let at-index2 = c .before .before .before .before in
+    let s = at-index2 .before .before .before in
+    let a = s .args in
+    let e1 = at-index2 .before .index .ensures .0 in
+    let e2 = at-index2 .index2 .ensures .0 in
     let rank = rw (e1, e2) at (c .before .place-from .ensures) in
     rw (e1, e2)
-    (colour-is (a .kind) (a .red .now) (a .green .now) (a .thresholds .now) (a .v1) (a .v2) (c .before .place-from .result) (c .blue-at .result) (omega arith) (omega arith)
-    (c .before .before .before .before .before .before .before .pre) rank (c .blue-at .ensures))
+    (colour-is (a .kind) (a .red .now) (a .green .now) (a .thresholds .now) (a .v1) (a .v2) (c .before .place-from .result) (c .blue-at .result) (omega arith) (omega arith) (s .pre) rank (c .blue-at .ensures))
 
 pub colour-at-spec : {M : Type 1} → statement M
 colour-at-spec =
