@@ -1,5 +1,6 @@
 #!/usr/bin/env python3
-"""counts.py [ROOT]: what a reader has to carry, counted over crates/: lines, trivial answers, parameters, names, what is public."""
+"""counts.py [ROOT]: what a reader has to carry, counted over crates/: lines (without the tables of numbers), trivial answers, parameters, names,
+what is public."""
 import glob
 import os
 import re
@@ -48,13 +49,15 @@ def names_of(function):
 
 
 proofs = files('*/proofs/**/*.antt')
-sources = files('*/src/**/*.rt')
+sources = [path for path in files('*/src/**/*.rt') if not path.endswith('/numbers.rt')]
 answers = [f for f in proofs if f.endswith('Proof.antt')]
 named = sum(len(re.findall(r' : tie\.Need-', read(f))) for f in answers)
 trivial = sum(len(re.findall(r'^(\S+) : tie\.Need-\S+.*\n\1 c(?: κs)? = (?:search needs|omega arith)\n', read(f), re.M)) for f in answers)
-lambdas = sum(len(re.findall(r'\(λ c(?: κs)?\. (?:search needs|omega arith)\)', read(f))) for f in answers)
+lists = [read(f).split('tie.spec', 1)[-1] for f in answers]
+lambdas = sum(len(re.findall(r'\(λ c(?: κs)?\.', text)) for text in lists)
+bare = sum(len(re.findall(r'\(λ c(?: κs)?\. (?:search needs|omega arith)\)', text)) for text in lists)
 print(f'lines: code {lines(sources)}, definitions and statements {lines(files("*/specs/**/*.antt"))}, proofs {lines(proofs)}')
-print(f'answers: {named + lambdas}, of them trivial {trivial + lambdas}, {trivial} with lines of their own')
+print(f'answers: {named + lambdas}, of them trivial {trivial + bare}, {trivial} of these with lines of their own')
 
 definitions = set()
 for path in files('*/specs/**/*.antt'):

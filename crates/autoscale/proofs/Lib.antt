@@ -1,4 +1,4 @@
 pub mod Painting
-pub mod Answers
+pub mod Painted
 pub mod Unread
 pub mod Windows

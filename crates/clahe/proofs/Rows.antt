@@ -1,12 +1,12 @@
--- The levels of a row or of a part of a band, one pixel after another, and the counts that they are added to. Assumes nothing.
+-- The levels of a row or of a part of a band, one pixel after another, and a bound on the counts that they are added to. Assumes nothing.
 use mathlib.Core.Path.{_≡_, refl}
-use mathlib.Core.List.{List, [], _∷_, _++_, zipWith}
+use mathlib.Core.List.{List, [], _∷_, zipWith}
 use Prim.Native.Nat.{ℕ, zero, suc, _+_, _≤_, _<_}
 use native.Mathlib.Nat.{le-of-suc-le-suc, not-suc-le-zero}
 use native.Mathlib.Numerals.{add-one}
 use native.Mathlib.Omega.{arith}
 use lib.Ieee.{Float}
-use lib.ListN.{length, getD, set, drop}
+use lib.ListN.{length, getD, drop}
 use lib.Seq.{drop-cons}
 use Rattle.types.specs.declared.WindowFloats.{WindowFloats}
 use Rattle.spec.specs.Lists.{added, stored}
@@ -31,26 +31,6 @@ pixel-off (suc m) v h = absurd (omega arith)
 -- no count is above m
 abbrev pub Most : ℕ → List ℕ → Type 0
 Most m h = (k : ℕ) → getD h k 0 ≤ m
-
-set-most : (h : List ℕ) (b x m : ℕ) → x ≤ m → Most m h → Most m (set h b x)
-set-most [] b x m l f k = f k
-set-most (y ∷ ys) zero x m l f zero = l
-set-most (y ∷ ys) zero x m l f (suc k) = f (suc k)
-set-most (y ∷ ys) (suc b) x m l f zero = f zero
-set-most (y ∷ ys) (suc b) x m l f (suc k) = set-most ys b x m l (λ j. f (suc j)) k
-
-pub added-most : (h : List ℕ) (b m : ℕ) → Most m h → Most (m + 1) (added b h)
-added-most h b m f = set-most h b (getD h b 0 + 1) (m + 1) (omega (arith, f b)) (λ j. omega (arith, f j))
-
-pub stored-most : (h xs : List ℕ) (m : ℕ) → Most m h → Most (m + length xs) (stored h xs)
-unfolding stored
-stored-most h [] m f k = omega (arith, f k)
-stored-most h (x ∷ xs) m f k = omega (arith, stored-most (added x h) xs (m + 1) (added-most h x m f) k)
-
-pub stored-append : (h xs ys : List ℕ) → stored h (xs ++ ys) ≡ stored (stored h xs) ys
-unfolding stored
-stored-append h [] ys = refl
-stored-append h (x ∷ xs) ys = stored-append (added x h) xs ys
 
 -- ---- one pixel after another
 

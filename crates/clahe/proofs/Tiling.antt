@@ -1,5 +1,5 @@
 -- Where a tile lies, and its levels row by row. Assumes nothing.
-use mathlib.Core.Path.{_≡_, refl, ap, _∙_}
+use mathlib.Core.Path.{_≡_, refl, sym, ap, _∙_}
 use mathlib.Core.List.{List, [], _∷_, _++_, map, flatMap, map-append, append-nil}
 use Prim.Native.Nat.{ℕ, zero, suc, _+_, _-_, _*_, _/_, _%_, _≤_, _<_, zero-le, suc-le-suc}
 use native.Mathlib.Nat.{add-zero, sub-zero, suc-mul, mul-le-mul-right}
@@ -13,7 +13,8 @@ use Rattle.spec.specs.Clahe.{tileStart, tileSize, tilePixels, tileCounts, level
 use Rattle.clahe.specs.Band.{levels}
 use Rattle.clahe.specs.Limits.{ValidFewer}
 use Rattle.clahe.proofs.Whole.{next-times, times-most}
-use Rattle.clahe.proofs.Rows.{Most, stored-append, stored-most}
+use Rattle.lists.proofs.Counts.{stored-append, stored-most}
+use Rattle.clahe.proofs.Rows.{Most}
 
 -- ---- where it lies
 
@@ -81,7 +82,7 @@ module _ (f : ℕ → List Pixel) (top height : ℕ) where
       let q : suc (top + r) ≡ top + (r + 1) = omega arith in
       rw e
       (ap (stored h) (levels-append (f (top + r)) (flatMap f (placesFrom (suc (top + r)) n)))
-      ∙ stored-append h (levels (f (top + r))) (levels (flatMap f (placesFrom (suc (top + r)) n)))
+      ∙ sym (stored-append h (levels (f (top + r))) (levels (flatMap f (placesFrom (suc (top + r)) n))))
       ∙ ap (λ (m : ℕ). stored (stored h (levels (f (top + r)))) (levels (flatMap f (placesFrom m n)))) q)
 
   pub rest-end : (h : List ℕ) (r : ℕ) → height ≤ r → Rest h r ≡ h

@@ -84,7 +84,7 @@ reached-rounds p a b pos (suc n) h = step (decLe ((2 * n + 1) ^ p * a) b) (reach
     step (no e) before =
         let u : b < (2 * n + 1) ^ p * a = lt-of-not-le e in
         let s : reached p a b n ≡ cond (leb ((2 * n + 1) ^ p * a) b) 1 0 + reached p a b n =
-          omega arith ∙ sym (ap (λ (t : Bool). cond t 1 0 + reached p a b n) (lt-leb _ _ u)) in
+        omega arith ∙ sym (ap (λ (t : Bool). cond t 1 0 + reached p a b n) (lt-leb _ _ u)) in
         subst (Rounds p a b) s (before u)
 
 -- r has the rule, and no other byte has it

@@ -20,10 +20,10 @@ pub near-level : (p a b r : ℕ) → T (near p a b r) → r ≡ level p a b
 near-level p a b r t =
     let s = both-right (leb r 255) _ t in
     let h : Rounds p a b r =
-      record {
-        lower = leb→le _ _ (both-left (leb ((2 * r - 1) ^ p * a) b) _ s);
-        upper = ltb→lt _ _ (both-right (leb ((2 * r - 1) ^ p * a) b) _ s)
-      } in
+    record {
+      lower = leb→le _ _ (both-left (leb ((2 * r - 1) ^ p * a) b) _ s);
+      upper = ltb→lt _ _ (both-right (leb ((2 * r - 1) ^ p * a) b) _ s);
+    } in
     sym (level-is p a b r h (leb→le _ _ (both-left (leb r 255) _ t)))
 
 -- the table has 256 entries, and at each the test of its place and the entry passes
@@ -37,7 +37,7 @@ table-right p a b t h =
     let n : length t ≡ 256 = eqb→eq _ _ (both-left (eqb (length t) 256) (every f 0 t) h) in
     record {
       sized = n;
-      right = λ v i. near-level p a (b v) (getD t v 0) (at 0 f t (both-right (eqb (length t) 256) (every f 0 t) h) v (omega arith))
+      right = λ v i. near-level p a (b v) (getD t v 0) (at 0 f t (both-right (eqb (length t) 256) (every f 0 t) h) v (omega arith));
     }
 
 -- a table for each floor
@@ -51,8 +51,8 @@ tables-right p a b ts h =
     record {
       sized = n;
       right = λ f lo hi.
-        let e : f - 3 + 3 ≡ f = omega arith in
-        table-right p (a f) (b f) (getD ts (f - 3) [])
-        (subst (λ (k : ℕ). T (whole (λ (v : ℕ) (r : ℕ). near p (a k) (b k v) r) (getD ts (f - 3) []))) e
-        (at [] g ts (both-right (eqb (length ts) 38) (every g 0 ts) h) (f - 3) (omega arith)))
+          let e : f - 3 + 3 ≡ f = omega arith in
+          table-right p (a f) (b f) (getD ts (f - 3) [])
+          (subst (λ (k : ℕ). T (whole (λ (v : ℕ) (r : ℕ). near p (a k) (b k v) r) (getD ts (f - 3) []))) e
+          (at [] g ts (both-right (eqb (length ts) 38) (every g 0 ts) h) (f - 3) (omega arith)));
     }

@@ -33,7 +33,7 @@ says m a c n d p q t =
       next = eqb→eq _ _ (both-left (eqb (n * q) (p * d + 1)) _ r2);
       far = ltb→lt _ _ (both-left (ltb m (q + d)) _ r3);
       d-pos = ltb→lt _ _ (both-left (ltb 0 d) (ltb 0 q) r4);
-      q-pos = ltb→lt _ _ (both-right (ltb 0 d) (ltb 0 q) r4)
+      q-pos = ltb→lt _ _ (both-right (ltb 0 d) (ltb 0 q) r4);
     }
 
 -- the first q of `left` numbers from `q` on with n * q one above a multiple of d: the denominator of the left neighbour
@@ -109,7 +109,7 @@ module _ (scale m least n : ℕ) (t : List ℕ) (sized : length t ≡ 2 * n) (pa
         let w : 2 * k + 1 < length t = h .within in
         record {
           lower = low k (omega arith) (h .reaches);
-          upper = ⊎-elim (λ e. last k e) (λ l. above k l (h .misses (omega arith))) (eq-or-lt-of-le (let w' : k + 1 ≤ n = omega arith in w'))
+          upper = ⊎-elim (λ e. last k e) (λ l. above k l (h .misses (omega arith))) (eq-or-lt-of-le (let w' : k + 1 ≤ n = omega arith in w'));
         }
 
 pub thresholds-right : (scale eps n : ℕ) (t : List ℕ) → 1 ≤ n → n ≤ 256 → T (passes scale eps n t) → Thresholds scale eps t
@@ -122,8 +122,8 @@ thresholds-right scale eps n t low high p =
       least = omega arith;
       most = omega arith;
       right = λ r g k hr hg pos h.
-        let w : 2 * k + 1 < length t = h .within in
-        sym (level-is 10 _ _ k
+          let w : 2 * k + 1 < length t = h .within in
+          sym (level-is 10 _ _ k
           (rounds scale (255 + eps) (max eps 1) n t sized passed top (r + eps) (g + eps) pos (omega arith) (omega arith) (omega arith) k h)
-          (omega arith))
+          (omega arith));
     }

@@ -49,7 +49,7 @@ pub counts-cons : (n b : ℕ) (xs : List ℕ) → b < n → added b (counts n xs
 counts-cons n b xs h =
     counts-from-cells n (added b (counts n xs)) (b ∷ xs) (length-set (counts n xs) b (getD (counts n xs) b 0 + 1) ∙ counts-length n xs)
     (λ k g. cell-added b k (counts n xs) (omega (arith, counts-length n xs)) (ℕ-discrete k b) (λ j. countOf j xs)
-      (λ j l. counts-at n xs j (omega (arith, counts-length n xs))) (omega (arith, counts-length n xs)) (λ j. countOf j (b ∷ xs)) (count-here b xs) (count-other k b xs))
+    (λ j l. counts-at n xs j (omega (arith, counts-length n xs))) (omega (arith, counts-length n xs)) (λ j. countOf j (b ∷ xs)) (count-here b xs) (count-other k b xs))
 
 -- ---- under a reordering
 

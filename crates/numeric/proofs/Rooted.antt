@@ -60,6 +60,7 @@ rootOf-shift m t k p h =
   where
     moved : (k t z y : ℕ) → y ≡ z + t → y ≤ 53 → 107 - z + (k + t + 107 - z) % 2 ≡ 107 - y + (k + 107 - y) % 2 + t
     moved k t z y e b = omega arith
+
     level : (k t j : ℕ) → k + 216 - j ≡ k + t + 216 - (j + t)
     level k t j = omega arith
 
@@ -119,8 +120,10 @@ fields x p h = go (leb (2 ^ 63) b) refl
   where
     b : ℕ
     b = toBits binary64 x
+
     is : x ≡ ofFields binary64 (leb (2 ^ 63) b) (b % 2 ^ 63 / 2 ^ 52) (b % 2 ^ 52)
     is = sym (ofBits-toBits binary64 x p)
+
     go : (s : Bool) → leb (2 ^ 63) b ≡ s → Fields x b
     go true e = absurd (true≢false (sym h ∙ ap (lt zero64) (is ∙ ap (λ (s : Bool). ofFields binary64 s (b % 2 ^ 63 / 2 ^ 52) (b % 2 ^ 52)) e) ∙ negative-fields (b % 2 ^ 63 / 2 ^ 52) (b % 2 ^ 52)))
     go false e =
@@ -271,12 +274,14 @@ module _ (q k up : ℕ) (c : Lead q up) where
 
   -- its root has 54 digits, and not all of them are ones
   pub root-range : (w : ℕ) → Floor (placed q k up * 2 ^ 54) w → (2 ^ 53 ≤ w) × (w < 2 ^ 54 - 1)
-  root-range w f =
-      (le-of-succ (2 ^ 53) w (lt-of-not-le (λ (g : w + 1 ≤ 2 ^ 53). not-le-of-lt (f .over) (le-trans (square-le (w + 1) (2 ^ 53) g) (omega (arith, placed-range .0)))))
-      , lt-of-not-le (λ (g : 2 ^ 54 - 1 ≤ w). not-le-of-lt (short (placed q k up) (placed-range .1)) (le-trans (square-le (2 ^ 54 - 1) w g) (f .under))))
+  root-range w f = (
+    le-of-succ (2 ^ 53) w (lt-of-not-le (λ (g : w + 1 ≤ 2 ^ 53). not-le-of-lt (f .over) (le-trans (square-le (w + 1) (2 ^ 53) g) (omega (arith, placed-range .0))))),
+    lt-of-not-le (λ (g : 2 ^ 54 - 1 ≤ w). not-le-of-lt (short (placed q k up) (placed-range .1)) (le-trans (square-le (2 ^ 54 - 1) w g) (f .under))),
+  )
     where
       le-of-succ : (a b : ℕ) → a < b + 1 → a ≤ b
       le-of-succ a b h = omega arith
+
       short : (t : ℕ) → t ≤ 2 ^ 54 - 2 → t * 2 ^ 54 < (2 ^ 54 - 1) * (2 ^ 54 - 1)
       short t h = omega arith
 

@@ -121,6 +121,7 @@ value-above c x a b B v p z h =
   where
     plain : (P D N E : ℕ) → P * E ≤ N * D → P * E + 0 * D ≤ N * D + 0 * E
     plain P D N E h = omega arith
+
     turn : (P D N E a b : ℕ) → P * b ≡ a * D → a * E ≤ N * b → P * E * b ≤ N * D * b
     turn P D N E a b e h =
         let u = simp (mul-assoc, mul-comm, mul-left-comm) at (mul-le-mul-right D h) in

@@ -7,14 +7,14 @@ use native.Mathlib.Omega.{arith}
 use mathlib.Core.Bool.{Bool, true, false, cond, _&&_}
 use lib.IntN.{ℤ, pos}
 use lib.Dec.{T, leb, leb→le, lt→ltb, lit<}
-use lib.Ieee.{Float, nan, inf, fin, Format, prec, unlike, up, down, round, neg, add, sub, mul, div, lt, le, ofInt}
+use lib.Ieee.{Float, nan, inf, fin, Format, binary64, prec, unlike, up, down, round, neg, add, sub, mul, div, lt, le, ofInt}
 use lib.Ieee.Back.{round-whole}
 use lib.Ieee.Exact.{HasValue}
 use lib.Ieee.Fits.{and-l, and-r, down-pos}
 use lib.Ieee.Order.{le-of-values}
 use lib.Ieee.Positive.{num, den, den-pos, positive}
 use lib.Ieee.Scale.{finite}
-use Rattle.spec.specs.Floats.{maxFloat, minFloat}
+use Rattle.spec.specs.Floats.{ofCount, maxFloat, minFloat}
 use Rattle.numeric.proofs.Order.{plus, less, le→cross, cross→le, finite-between, le-trans as le-trans'}
 use Rattle.numeric.proofs.Round.{Rounds, rounds-le, round-neg, neg-anti, neg-neg}
 use Rattle.numeric.proofs.Ops.{add-rounds, div-rounds, neg-finite, num-pos}
@@ -192,3 +192,6 @@ maxFloat-within {n} x y v w = either (Within n) (lt y x) x y v w
 
 pub minFloat-within : {n : ℕ} (x y : Float) → Within n x → Within n y → Within n (minFloat x y)
 minFloat-within {n} x y v w = either (Within n) (lt x y) x y v w
+
+pub within-between : (n : ℕ) → n ≤ 2 ^ 53 → (lo x hi : Float) → Within n lo → Within n hi → T (le lo x) → T (le x hi) → Within n x
+within-between n l lo x hi v w h k = le-within binary64 n l x (le-trans' (neg (ofCount n)) lo x (within-ge binary64 n l lo v) h) (le-trans' x hi (ofCount n) k (within-le binary64 n l hi w))

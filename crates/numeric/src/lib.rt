@@ -213,9 +213,17 @@ fn next_digit(s: Rooting) -> Rooting
     let digits = s.digits % 0x10_0000_0000_0000 * 4;
     let trial = s.root * 4 + 1;
     if trial <= rest {
-        Rooting { root: s.root * 2 + 1, rest: rest - trial, digits: digits }
+        Rooting {
+            root: s.root * 2 + 1,
+            rest: rest - trial,
+            digits: digits,
+        }
     } else {
-        Rooting { root: s.root * 2, rest: rest, digits: digits }
+        Rooting {
+            root: s.root * 2,
+            rest: rest,
+            digits: digits,
+        }
     }
 }
 
@@ -224,7 +232,11 @@ fn whole_root(digits: u64) -> u64
     requires { ⌜ digits < 2 ^ 54 ⌝ }
     ensures { λ r. ⌜ r ≡ wholeRoot (digits * 2 ^ 54) 54 0 ⌝ }
 {
-    let mut s = Rooting { root: 0, rest: 0, digits: digits };
+    let mut s = Rooting {
+        root: 0,
+        rest: 0,
+        digits: digits,
+    };
     let mut i = 0u64;
     while i < 54 {
         s = next_digit(s);

@@ -21,7 +21,7 @@ use Rattle.spec.specs.Stretch.{stretch}
 use Rattle.spec.specs.Value.{full8}
 use Rattle.spec.specs.Window.{pictureWindow, gammaRefused}
 use Rattle.autoscale.specs.Painted.{plainValues, opens}
-use Rattle.autoscale.proofs.Answers.{values-outside}
+use Rattle.autoscale.proofs.Painted.{values-outside}
 use Rattle.raster.proofs.Bands.{or-false}
 use Rattle.pipeline.specs.declared.windows.PictureWindows.{PictureWindows}
 use Rattle.pipeline.specs.declared.windows.PictureWindows.the-variants as Both

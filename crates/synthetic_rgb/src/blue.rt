@@ -47,7 +47,13 @@ fn is_dark(kind: Composition, v1: u8, v2: u8) -> bool
 }
 
 // The place of the ratio of a red and a green, from a place on that it reaches.
-pub(crate) fn place_from(kind: Composition, thresholds: &[u16], red: u8, green: u8, from: usize) -> usize
+pub(crate) fn place_from(
+    kind: Composition,
+    thresholds: &[u16],
+    red: u8,
+    green: u8,
+    from: usize,
+) -> usize
     requires { ⌜ Reached (now thresholds) (red + epsilon kind) (green + epsilon kind) from ⌝ }
     ensures { λ k. ⌜ Rank (now (thresholds .entry)) (red + epsilon kind) (green + epsilon kind) k ⌝ }
 {
@@ -60,7 +66,11 @@ pub(crate) fn blue_at(kind: Composition, v1: u8, v2: u8, place: usize) -> u8
     requires { ⌜ place < 256 ⌝ }
     ensures { λ b. ⌜ b ≡ cond (isDark kind v1 v2) 0 place ⌝ }
 {
-    if is_dark(kind, v1, v2) { 0 } else { place as u8 }
+    if is_dark(kind, v1, v2) {
+        0
+    } else {
+        place as u8
+    }
 }
 
 // Where the search for the place of a pair starts: at the place of the pair before it, which has the same green and no more red, or at 0 in a new row.
@@ -71,7 +81,13 @@ fn start(v1: usize, place: usize) -> usize
 }
 
 // The blue of every pair of bytes.
-pub(crate) fn blue_cells(kind: Composition, red: &[u8; 256], green: &[u8; 256], thresholds: &[u16], cells: &mut [u8])
+pub(crate) fn blue_cells(
+    kind: Composition,
+    red: &[u8; 256],
+    green: &[u8; 256],
+    thresholds: &[u16],
+    cells: &mut [u8],
+)
     requires { ⌜ Palette kind (now red) (now green) (now thresholds) × (length (now cells) ≡ 65536) ⌝ }
     ensures { λ _. ⌜ Cells kind (now (cells .exit)) ⌝ }
 {

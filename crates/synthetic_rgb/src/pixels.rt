@@ -29,7 +29,14 @@ fn put(rgb_data: &mut [u8], j: usize, colour: Rgb)
 }
 
 // The colour of a pixel.
-fn colour_at(kind: Composition, red: &[u8; 256], green: &[u8; 256], thresholds: &[u16], v1: u8, v2: u8) -> Rgb
+fn colour_at(
+    kind: Composition,
+    red: &[u8; 256],
+    green: &[u8; 256],
+    thresholds: &[u16],
+    v1: u8,
+    v2: u8,
+) -> Rgb
     requires { ⌜ Palette kind (now red) (now green) (now thresholds) ⌝ }
     ensures { λ c. ⌜ c ≡ colourAt kind v1 v2 ⌝ }
 {
@@ -43,7 +50,15 @@ fn colour_at(kind: Composition, red: &[u8; 256], green: &[u8; 256], thresholds: 
 }
 
 // The colours, with blue worked out for each pixel.
-fn by_pixel(kind: Composition, red: &[u8; 256], green: &[u8; 256], thresholds: &[u16], band1_data: &[u8], band2_data: &[u8], rgb_data: &mut [u8])
+fn by_pixel(
+    kind: Composition,
+    red: &[u8; 256],
+    green: &[u8; 256],
+    thresholds: &[u16],
+    band1_data: &[u8],
+    band2_data: &[u8],
+    rgb_data: &mut [u8],
+)
     requires { ⌜ Palette kind (now red) (now green) (now thresholds) × (length (now band2_data) ≡ length (now band1_data)) × (length (now rgb_data) ≡ 3 * length (now band1_data)) ⌝ }
     ensures { λ _. ⌜ now (rgb_data .exit) ≡ bytesOf (zipWith (colourAt kind) (now (band1_data .entry)) (now (band2_data .entry))) ⌝ }
 {
@@ -58,7 +73,14 @@ fn by_pixel(kind: Composition, red: &[u8; 256], green: &[u8; 256], thresholds: &
 }
 
 // The colours that three tables show.
-fn by_cells(red: &[u8; 256], green: &[u8; 256], cells: &[u8], band1_data: &[u8], band2_data: &[u8], rgb_data: &mut [u8])
+fn by_cells(
+    red: &[u8; 256],
+    green: &[u8; 256],
+    cells: &[u8],
+    band1_data: &[u8],
+    band2_data: &[u8],
+    rgb_data: &mut [u8],
+)
     requires { ⌜ (length (now cells) ≡ 65536) × (length (now band2_data) ≡ length (now band1_data)) × (length (now rgb_data) ≡ 3 * length (now band1_data)) ⌝ }
     ensures { λ _. ⌜ now (rgb_data .exit) ≡ bytesOf (zipWith (shown (now (red .entry)) (now (green .entry)) (now (cells .entry))) (now (band1_data .entry)) (now (band2_data .entry))) ⌝ }
 {
@@ -68,7 +90,11 @@ fn by_cells(red: &[u8; 256], green: &[u8; 256], cells: &[u8], band1_data: &[u8],
         let v1 = casts::index(band1_data[i]);
         let v2 = casts::index(band2_data[i]);
         let k = cell(v1, v2);
-        let colour = Rgb { r: red[v1], g: green[v2], b: cells[k] };
+        let colour = Rgb {
+            r: red[v1],
+            g: green[v2],
+            b: cells[k],
+        };
         put(rgb_data, j, colour);
         i += 1;
         j += 3;
@@ -76,7 +102,16 @@ fn by_cells(red: &[u8; 256], green: &[u8; 256], cells: &[u8], band1_data: &[u8],
 }
 
 // The colours, with the blue of every pair of bytes worked out first.
-fn with_cells(kind: Composition, red: &[u8; 256], green: &[u8; 256], thresholds: &[u16], cells: &mut [u8; 65536], band1_data: &[u8], band2_data: &[u8], rgb_data: &mut [u8])
+fn with_cells(
+    kind: Composition,
+    red: &[u8; 256],
+    green: &[u8; 256],
+    thresholds: &[u16],
+    cells: &mut [u8; 65536],
+    band1_data: &[u8],
+    band2_data: &[u8],
+    rgb_data: &mut [u8],
+)
     requires { ⌜ Palette kind (now red) (now green) (now thresholds) × (length (now band2_data) ≡ length (now band1_data)) × (length (now rgb_data) ≡ 3 * length (now band1_data)) ⌝ }
     ensures { λ _. ⌜ now (rgb_data .exit) ≡ bytesOf (zipWith (colourAt kind) (now (band1_data .entry)) (now (band2_data .entry))) ⌝ }
 {
@@ -85,14 +120,39 @@ fn with_cells(kind: Composition, red: &[u8; 256], green: &[u8; 256], thresholds:
 }
 
 // The colours of two bands: a short list does not pay for 65,536 cells.
-pub(crate) fn colours(kind: Composition, red: &[u8; 256], green: &[u8; 256], thresholds: &[u16], band1_data: &[u8], band2_data: &[u8], rgb_data: &mut [u8])
+pub(crate) fn colours(
+    kind: Composition,
+    red: &[u8; 256],
+    green: &[u8; 256],
+    thresholds: &[u16],
+    band1_data: &[u8],
+    band2_data: &[u8],
+    rgb_data: &mut [u8],
+)
     requires { ⌜ Palette kind (now red) (now green) (now thresholds) × (length (now band2_data) ≡ length (now band1_data)) × (length (now rgb_data) ≡ 3 * length (now band1_data)) ⌝ }
     ensures { λ _. ⌜ now (rgb_data .exit) ≡ bytesOf (zipWith (colourAt kind) (now (band1_data .entry)) (now (band2_data .entry))) ⌝ }
 {
     if band1_data.len() < 2048 {
-        by_pixel(kind, red, green, thresholds, band1_data, band2_data, rgb_data);
+        by_pixel(
+            kind,
+            red,
+            green,
+            thresholds,
+            band1_data,
+            band2_data,
+            rgb_data,
+        );
     } else {
         let mut cells = [0u8; 65536];
-        with_cells(kind, red, green, thresholds, &mut cells, band1_data, band2_data, rgb_data);
+        with_cells(
+            kind,
+            red,
+            green,
+            thresholds,
+            &mut cells,
+            band1_data,
+            band2_data,
+            rgb_data,
+        );
     }
 }

@@ -1,7 +1,7 @@
 -- `autoscale::gamma_refused` meets its contract. Assumes nothing.
 use mathlib.Core.Path.{ap, _∙_}
 use mathlib.Core.Bool.{not}
-use Rattle.autoscale.proofs.Answers.{no-gamma, gamma-other}
+use Rattle.autoscale.proofs.Painted.{no-gamma, gamma-other}
 use borrow.Author.Needs.{needs}
 use Rattle.autoscale.proofs.gamma_refused.Statement.{statement}
 use Rattle.autoscale.proofs.gamma_refused.Tie as tie

@@ -9,7 +9,7 @@ use Rattle.spec.specs.Stretch.{stretch}
 use Rattle.spec.specs.Value.{full8}
 use Rattle.raster.proofs.Bands.{pixels-length}
 use Rattle.stretch.proofs.Calls.{stretch-by}
-use Rattle.autoscale.proofs.Answers.{plain-window, left-stretched}
+use Rattle.autoscale.proofs.Painted.{plain-window, left-stretched}
 use Rattle.autoscale.proofs.plain_greys_u8.Statement.{statement}
 use Rattle.autoscale.proofs.plain_greys_u8.Tie as tie
 

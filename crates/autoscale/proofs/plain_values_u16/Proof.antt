@@ -7,7 +7,7 @@ use lib.ListN.{length}
 use Rattle.spec.specs.Pixels.{pixels}
 use Rattle.spec.specs.Value.{full16}
 use Rattle.raster.proofs.Bands.{pixels-length}
-use Rattle.autoscale.proofs.Answers.{plain-window, left-plain}
+use Rattle.autoscale.proofs.Painted.{plain-window, left-plain}
 use Rattle.autoscale.proofs.plain_values_u16.Statement.{statement}
 use Rattle.autoscale.proofs.plain_values_u16.Tie as tie
 

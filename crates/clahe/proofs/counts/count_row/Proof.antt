@@ -9,7 +9,8 @@ use lib.Ieee.{nan}
 use Rattle.spec.specs.Clahe.{levelOf}
 use Rattle.spec.specs.Lists.{added, stored}
 use Rattle.clahe.specs.Band.{band, levels}
-use Rattle.clahe.proofs.Rows.{Most, added-most, row-end, row-on, row-off}
+use Rattle.lists.proofs.Counts.{added-most}
+use Rattle.clahe.proofs.Rows.{Most, row-end, row-on, row-off}
 use Rattle.clahe.proofs.counts.count_row.Statement.{statement}
 use Rattle.clahe.proofs.counts.count_row.Tie as tie
 
@@ -42,7 +43,7 @@ loop-again c =
     rw (w .5) (
       omega arith,
       simp length-set (omega arith),
-      (λ k. omega (arith, added-most h (w .3 .result) (16777216 + i) (l .loop .inv .2) k)),
+      (λ k. omega (arith, added-most h (w .3 .result) (λ j. 16777216 + i) (l .loop .inv .2) k)),
       l .loop .inv .3 ∙ row-on (a .window) (a .valid-mask .now) (a .db .now) h i nan (omega arith) (omega arith) (w .0 .taken)
           ∙ ap (λ (b : ℕ). stored (added b h) (levels (band (a .window) (drop (i + 1) (a .valid-mask .now)) (drop (i + 1) (a .db .now)))))
           (sym (w .3 .ensures .0 ∙ ap levelOf (w .2 .ensures))),

@@ -8,7 +8,7 @@ use Rattle.spec.specs.Grey.{values}
 use Rattle.spec.specs.Pixels.{pixels}
 use Rattle.spec.specs.Stretch.{stretch}
 use Rattle.spec.specs.Value.{full8}
-use Rattle.autoscale.proofs.Answers.{values-outside}
+use Rattle.autoscale.proofs.Painted.{values-outside}
 use Rattle.pipeline.proofs.Accepted.{ready-lengths}
 use Rattle.pipeline.proofs.Apart.{clahe-only}
 use Rattle.pipeline.proofs.bands.greys_u8.Statement.{statement}

@@ -8,7 +8,7 @@ use Rattle.spec.specs.Pixels.{pixels}
 use Rattle.spec.specs.Strategies.{isClahe}
 use Rattle.spec.specs.Stretch.{stretch}
 use Rattle.spec.specs.Value.{full8}
-use Rattle.autoscale.proofs.Answers.{left-stretched}
+use Rattle.autoscale.proofs.Painted.{left-stretched}
 use Rattle.pipeline.proofs.Accepted.{ready-pixels}
 use Rattle.pipeline.proofs.Greys.{values-none, values-tiles}
 use Rattle.pipeline.proofs.bands.tiled_greys_u8.Statement.{statement}

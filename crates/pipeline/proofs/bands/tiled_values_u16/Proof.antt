@@ -7,7 +7,7 @@ use Rattle.types.specs.declared.AutoscaleStrategy.the-variants.{Clahe}
 use Rattle.spec.specs.Pixels.{pixels}
 use Rattle.spec.specs.Strategies.{isClahe}
 use Rattle.spec.specs.Value.{full16}
-use Rattle.autoscale.proofs.Answers.{left-plain}
+use Rattle.autoscale.proofs.Painted.{left-plain}
 use Rattle.pipeline.proofs.Accepted.{ready-pixels}
 use Rattle.pipeline.proofs.Greys.{values-none, values-tiles}
 use Rattle.pipeline.proofs.bands.tiled_values_u16.Statement.{statement}

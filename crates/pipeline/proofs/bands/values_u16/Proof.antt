@@ -7,7 +7,7 @@ use Rattle.types.specs.declared.AutoscaleStrategy.{AutoscaleStrategy}
 use Rattle.spec.specs.Grey.{values}
 use Rattle.spec.specs.Pixels.{pixels}
 use Rattle.spec.specs.Value.{full16}
-use Rattle.autoscale.proofs.Answers.{values-outside}
+use Rattle.autoscale.proofs.Painted.{values-outside}
 use Rattle.pipeline.proofs.Accepted.{ready-lengths}
 use Rattle.pipeline.proofs.Apart.{clahe-only}
 use Rattle.pipeline.proofs.bands.values_u16.Statement.{statement}

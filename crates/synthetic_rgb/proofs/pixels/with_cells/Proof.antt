@@ -14,8 +14,8 @@ returns c =
     let s = k .before .before .before in
     let a = s .args in
     let same =
-      zip-same 256 _ (colourAt (a .kind)) (shown-is (a .kind) (a .red .now) (a .green .now) (a .thresholds .now) _ (s .pre .0) (b .blue-cells .ensures)) (a .band1-data .now) (a .band2-data .now)
-      (λ j h. omega (arith, k .before .shared-slice-known2 .given j)) (λ j h. omega (arith, k .shared-slice-known3 .given j)) in
+    zip-same 256 _ (colourAt (a .kind)) (shown-is (a .kind) (a .red .now) (a .green .now) (a .thresholds .now) _ (s .pre .0) (b .blue-cells .ensures)) (a .band1-data .now) (a .band2-data .now)
+    (λ j h. omega (arith, k .before .shared-slice-known2 .given j)) (λ j h. omega (arith, k .shared-slice-known3 .given j)) in
     rw same at (c .before .before .by-cells .ensures)
 
 pub with-cells-spec : {M : Type 1} → statement M
