@@ -1,6 +1,7 @@
 #!/usr/bin/env python3
 """counts.py [ROOT]: what a reader has to carry, counted over crates/: lines (without the tables of numbers), trivial answers, parameters, names,
-what is public."""
+what is public. A report, but for two things that end it with 1: a function of more than eight parameters that is not the picture call, and a
+`pub fn` that no other crate calls."""
 import glob
 import os
 import re
@@ -62,6 +63,7 @@ print(f'answers: {named + lambdas}, of them trivial {trivial + bare}, {trivial} 
 definitions = set()
 for path in files('*/specs/**/*.antt'):
     definitions |= set(re.findall(r'^(?:unfoldable |abbrev )pub ([\w·]+) :', read(path), re.M))
+# Definitions that a contract puts around another one: the name to compare is the next.
 wrappers = {'number', 'stretch', 'bytesOf', 'firstOf', 'pixels', 'lowest', 'highest', 'stored', 'places'}
 code = {}
 for path in sources:
@@ -85,3 +87,5 @@ for crate, texts in code.items():
 print(f'more than eight parameters: {len(many)}: {", ".join(many)}')
 print(f'pub fn: {public}, without a caller outside their crate {len(unused)}: {", ".join(unused)}')
 print(f'contracts that begin with a definition: {clauses}, of another name than the function {len(differ)}: {", ".join(differ)}')
+allowed = {'pipeline::synthetic_rgb_picture 12', 'quicklook::quicklook_picture 12'}
+sys.exit(bool(unused or set(many) - allowed))

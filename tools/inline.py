@@ -1,6 +1,6 @@
 #!/usr/bin/env python3
-"""inline.py FILE ..: in each Proof.antt, the answers that are `search needs` or `omega arith` alone become lambdas in the list of tie.spec.
-Written once by the tool's skeletons they take four lines each; so only the answers that say something stay. Check the crate after it."""
+"""inline.py FILE ..: in each Proof.antt, the answers that are `search needs` or `omega arith` alone become lambdas in the list of tie.spec, which
+ends the file. A skeleton gives each of them four lines; what stays is what says something. Check the crate after it."""
 import re
 import sys
 
@@ -12,7 +12,9 @@ def inlined(text):
     """The text, and how many answers were moved."""
     trivial = {m.group(1): f'(λ {m.group(2)}. {m.group(3)})' for m in ANSWER.finditer(text)}
     rest = ANSWER.sub('', text)
-    at = rest.index('tie.spec')
+    at = rest.find('tie.spec')
+    if at < 0:
+        return text, 0
     return rest[:at] + NAME.sub(lambda m: trivial.get(m.group(0), m.group(0)), rest[at:]), len(trivial)
 
 

@@ -13,7 +13,7 @@ use Rattle.spec.specs.Bins.{binOf, histogram}
 use Rattle.spec.specs.Lists.{sumOf}
 use Rattle.spec.specs.Percentile.{targetOf, findBin}
 use Rattle.lists.proofs.Counts.{counts-sum, counts-length}
-use Rattle.histogram.proofs.Seeking.{here, target-most}
+use Rattle.histogram.proofs.FindBin.{here, targetOf-most}
 use Rattle.histogram.proofs.Summaries.{bins-below}
 
 -- ---- "The bins sum to the valid count."
@@ -71,7 +71,7 @@ findBin-first t hist g =
     }
 
 -- for any fraction of the values that the bins hold
-pub target-first : (p least inv : Float) (vs : List Float) → 0 < length vs →
+pub targetOf-first : (p least inv : Float) (vs : List Float) → 0 < length vs →
     First (targetOf p (length vs)) (histogram (map (binOf least inv) vs)) (findBin (targetOf p (length vs)) 0 0 (histogram (map (binOf least inv) vs)))
-target-first p least inv vs h =
-    findBin-first (targetOf p (length vs)) (histogram (map (binOf least inv) vs)) (omega (arith, target-most p (length vs), bins-sum least inv vs))
+targetOf-first p least inv vs h =
+    findBin-first (targetOf p (length vs)) (histogram (map (binOf least inv) vs)) (omega (arith, targetOf-most p (length vs), bins-sum least inv vs))

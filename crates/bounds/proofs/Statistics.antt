@@ -44,7 +44,7 @@ use Rattle.bounds.specs.Bounds.{Accepted, Percentiles}
 use Rattle.bounds.proofs.Units.{units, zero-units, zero-more, zero-fewer, le-units, add-over, div-over, count-positive, count-num}
 use Rattle.bounds.proofs.Moments.{Sound, Decibel, Each, product-over, sound-moments}
 use Rattle.histogram.proofs.Counting.{none-count}
-use Rattle.bounds.proofs.Bins.{First, target-first, bins-sum, histogram-length}
+use Rattle.bounds.proofs.Bins.{First, targetOf-first, bins-sum, histogram-length}
 
 -- ---- the deviation
 
@@ -344,7 +344,7 @@ module _ (s : Moments) (o : Sound s) where
     unfolding found
     first =
         subst (λ (n : ℕ). First (targetOf p (length vs)) (histogram (map (binOf (s .«min_db») (div binary64 one64 span)) vs)) (findBin (targetOf p n) 0 0 (histogram (map (binOf (s .«min_db») (div binary64 one64 span)) vs)))) (sym c)
-        (target-first p (s .«min_db») (div binary64 one64 span) vs h)
+        (targetOf-first p (s .«min_db») (div binary64 one64 span) vs h)
 
     found-bin : found .bin ≤ 4095
     found-bin = omega (arith, first .inside, histogram-length (map (binOf (s .«min_db») (div binary64 one64 span)) vs))

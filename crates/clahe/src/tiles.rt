@@ -45,7 +45,7 @@ fn side_refused(s: usize) -> bool
 }
 
 // Refusal 5, for a band with a valid pixel.
-pub fn tiles_refused(rows: usize, cols: usize) -> bool
+pub fn either_side_refused(rows: usize, cols: usize) -> bool
     requires { ⌜ (rows ≤ 4096) × (cols ≤ 4096) ⌝ }
     ensures { λ r. ⌜ r ≡ (sideRefused rows || sideRefused cols) ⌝ }
 {

@@ -8,4 +8,4 @@ pub mod FirstMet
 pub mod Steadiness
 pub mod Moved
 pub mod Reordering
-pub mod Sides
+pub mod Beside

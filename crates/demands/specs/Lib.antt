@@ -1,4 +1,4 @@
 pub mod Alteration
 pub mod GreyOrder
 pub mod Reordering
-pub mod Sides
+pub mod Beside

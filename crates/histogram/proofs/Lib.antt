@@ -1,6 +1,6 @@
 pub mod Passes
 pub mod Filling
-pub mod Seeking
+pub mod FindBin
 pub mod Summaries
 pub mod Statistics
 pub mod Counting

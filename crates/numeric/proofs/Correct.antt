@@ -1,4 +1,4 @@
--- `root` is correctly rounded: the whole-number root's last digit is rounded off, and no tie exists. Assumes nothing.
+-- `sqrtFloat` is correctly rounded: the whole-number root's last digit is rounded off, and no tie exists. Assumes nothing.
 use mathlib.Core.Path.{_≡_, refl, sym, ap, _∙_, subst}
 use Prim.Native.Nat.{ℕ, zero, suc, _+_, _-_, _*_, _/_, _%_, _^_, _≤_, _<_, zero-le, suc-le-suc}
 use native.Mathlib.Nat.{le-trans, le-of-eq, lt-of-lt-of-le, lt-of-le-of-lt, lt-of-not-le, not-le-of-lt, suc-mul, mul-one, mul-assoc, mul-comm, mul-left-comm, mul-mul-mul-comm, mul-add, add-mul, mul-pos, mul-lt-mul-of-pos-right}

@@ -1,4 +1,4 @@
--- `larger`, `smaller` and `held` keep the order and lie where they should, and casts and rounding keep the order. Assumes nothing.
+-- `maxFloat`, `minFloat` and `clampFloat` keep the order and lie where they should, and casts and rounding keep the order. Assumes nothing.
 use mathlib.Core.Path.{_≡_, sym, subst}
 use Prim.Native.Nat.{ℕ, _+_, _-_, _*_, _/_, _^_, _≤_, _<_, zero-le}
 use native.Mathlib.Nat.{zero-div, div-eq-of-lt, add-mul, mul-assoc, mul-comm, mul-left-comm, mul-pos}

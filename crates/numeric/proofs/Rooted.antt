@@ -1,4 +1,4 @@
--- `root` by the significand and the exponent that a bit pattern has, and the pattern of the result. Assumes nothing.
+-- `sqrtFloat` by the significand and the exponent that a bit pattern has, and the pattern of the result. Assumes nothing.
 use mathlib.Core.Path.{_≡_, refl, sym, ap, _∙_, subst}
 use Prim.Native.Nat.{ℕ, zero, suc, _+_, _-_, _*_, _/_, _%_, _^_, _≤_, _<_, zero-le, suc-le-suc}
 use native.Mathlib.Nat.{le-trans, le-of-eq, le-antisymm, lt-of-lt-of-le, lt-of-not-le, not-le-of-lt, add-zero, suc-add, zero-mul, mul-assoc, mul-comm, mul-left-comm, mul-pos, mul-le-mul-right, mul-lt-mul-of-pos-right, eq-of-mul-eq-mul-right, mod-eq-of-lt}

@@ -48,7 +48,7 @@ fn window_tiles_refused(
         return false;
     };
     if strategies::is_clahe(strategy) {
-        return clahe::tiles::tiles_refused(rows, cols);
+        return clahe::tiles::either_side_refused(rows, cols);
     }
     false
 }

@@ -26,6 +26,6 @@ blankOf [] = 1
 blankOf (x ∷ xs) = 0
 
 -- low, high, range and gamma; zeros where it is blank
-unfoldable pub windowFloats : List Float → List Float
-windowFloats [] = zero64 ∷ zero64 ∷ zero64 ∷ zero64 ∷ []
-windowFloats (x ∷ xs) = x ∷ xs
+unfoldable pub floatsOfWindow : List Float → List Float
+floatsOfWindow [] = zero64 ∷ zero64 ∷ zero64 ∷ zero64 ∷ []
+floatsOfWindow (x ∷ xs) = x ∷ xs

@@ -4,7 +4,7 @@ ghost use Rattle.spec.specs.Answer.{number, after};
 ghost use Rattle.spec.specs.Statistics as Statistics;
 ghost use Rattle.spec.specs.Window as Window;
 ghost use Rattle.quicklook.specs.Calls as Calls;
-ghost use Rattle.quicklook.specs.Numbers.{kept, countOf, floatsOf, blankOf, windowFloats};
+ghost use Rattle.quicklook.specs.Numbers.{kept, countOf, floatsOf, blankOf, floatsOfWindow};
 use super::codes;
 use types::AutoscaleStrategy;
 use types::HistogramStats;
@@ -70,7 +70,7 @@ fn put_window(
 ) -> u8
     ensures reply { λ r. ⌜ r ≡ number (Window.autoscaleWindow strategy rows cols (now («valid_mask» .entry)) (now (db .entry))) ⌝ }
     ensures blank { λ _. ⌜ now (blank .exit) ≡ kept blankOf (Window.autoscaleWindow strategy rows cols (now («valid_mask» .entry)) (now (db .entry))) (now (blank .entry)) ⌝ }
-    ensures floats { λ _. ⌜ now (floats .exit) ≡ after windowFloats (Window.autoscaleWindow strategy rows cols (now («valid_mask» .entry)) (now (db .entry))) (now (floats .entry)) ⌝ }
+    ensures floats { λ _. ⌜ now (floats .exit) ≡ after floatsOfWindow (Window.autoscaleWindow strategy rows cols (now («valid_mask» .entry)) (now (db .entry))) (now (floats .entry)) ⌝ }
 {
     match autoscale::autoscale_window(strategy, rows, cols, db, valid_mask) {
         WindowAnswer::Window {
@@ -105,7 +105,7 @@ pub extern "C" fn quicklook_window(
 ) -> u8
     ensures reply { λ r. ⌜ r ≡ number (Calls.window strategy rows cols (now («valid_mask» .entry)) (now (db .entry))) ⌝ }
     ensures blank { λ _. ⌜ now (blank .exit) ≡ kept blankOf (Calls.window strategy rows cols (now («valid_mask» .entry)) (now (db .entry))) (now (blank .entry)) ⌝ }
-    ensures floats { λ _. ⌜ now (floats .exit) ≡ after windowFloats (Calls.window strategy rows cols (now («valid_mask» .entry)) (now (db .entry))) (now (floats .entry)) ⌝ }
+    ensures floats { λ _. ⌜ now (floats .exit) ≡ after floatsOfWindow (Calls.window strategy rows cols (now («valid_mask» .entry)) (now (db .entry))) (now (floats .entry)) ⌝ }
 {
     let codes::StrategyCode::Names(strategy) = codes::strategy_of(strategy) else {
         return 255;

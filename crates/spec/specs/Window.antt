@@ -101,10 +101,11 @@ chooseClip Clahe s = between (s .p01) (s .p99) one64
 chooseClip Tamed s = between (s .p25) (s .p99) one64
 chooseClip Default s = between (s .p05) (s .p95) one64
 
--- "blank exactly if no refusal applies and no mark is 1"
+-- blank without a valid pixel
 abbrev pub openWindow : ℕ → Clip → WindowAnswer
 openWindow valid c = cond (eqb valid 0) Blank (opened c)
 
+-- "blank exactly if no refusal applies and no mark is 1"
 unfoldable pub windowOf : AutoscaleStrategy → HistogramStats → WindowAnswer
 windowOf strategy s = openWindow (s .«valid_count») (chooseClip strategy s)
 
@@ -113,10 +114,11 @@ unfoldable pub tamedClip : Bool → HistogramStats → Clip
 tamedClip true s = between (minFloat (s .p02) (s .p05)) (s .p99) one64
 tamedClip false s = between (s .p05) (s .p99) one64
 
--- the window that a picture paints a band with
+-- what a strategy decides for a band of a picture
 abbrev pub pictureClip : AutoscaleStrategy → Bool → HistogramStats → Clip
 pictureClip strategy copol s = cond (isTamed strategy) (tamedClip copol s) (chooseClip strategy s)
 
+-- the window that a picture paints a band with
 unfoldable pub pictureWindow : AutoscaleStrategy → Bool → HistogramStats → WindowAnswer
 pictureWindow strategy copol s = openWindow (s .«valid_count») (pictureClip strategy copol s)
 

@@ -4,7 +4,7 @@ use Prim.Native.Nat.{_-_, _≤_, _<_}
 use native.Mathlib.Omega.{arith}
 use lib.ListN.{drop}
 use Rattle.spec.specs.Percentile.{findBin}
-use Rattle.histogram.proofs.Seeking.{findBin-here, findBin-last, findBin-next}
+use Rattle.histogram.proofs.FindBin.{findBin-here, findBin-last, findBin-next}
 use borrow.Author.Needs.{needs}
 use Rattle.histogram.proofs.percentile.find_bin.Statement.{statement}
 use Rattle.histogram.proofs.percentile.find_bin.Tie as tie

@@ -13,7 +13,7 @@ returns-2 : tie.Need-returns-2
 unfolding windowTilesRefused hasWindow
 returns-2 c =
     let t = c .before in
-    rw (t .before .before .enum-told .given .1, sym (t .before .is-clahe .ensures) ∙ t .if1 .taken) (c .tiles-refused .ensures)
+    rw (t .before .before .enum-told .given .1, sym (t .before .is-clahe .ensures) ∙ t .if1 .taken) (c .either-side-refused .ensures)
 
 returns-3 : tie.Need-returns-3
 unfolding windowTilesRefused

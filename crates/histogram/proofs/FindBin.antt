@@ -17,25 +17,25 @@ use Rattle.spec.specs.Percentile.{targetOf, findBin}
 
 -- ---- the target
 
-pub target-none : (p : Float) (count : ℕ) → count ≡ 0 → 0 ≡ targetOf p count
+pub targetOf-none : (p : Float) (count : ℕ) → count ≡ 0 → 0 ≡ targetOf p count
 unfolding targetOf
-target-none p count e = rw e (sym (min-eq-right zero-le))
+targetOf-none p count e = rw e (sym (min-eq-right zero-le))
 
 module _ (p : Float) (count n : ℕ) (e : n ≡ toUnsigned 64 (mul binary64 p (ofCount count))) where
-  target-is : min n (count - 1) ≡ targetOf p count
+  targetOf-is : min n (count - 1) ≡ targetOf p count
   unfolding targetOf
-  target-is = ap (λ (k : ℕ). min k (count - 1)) e
+  targetOf-is = ap (λ (k : ℕ). min k (count - 1)) e
 
-  pub target-place : n < count - 1 → n ≡ targetOf p count
-  target-place h = sym (min-eq-left (le-of-lt h)) ∙ target-is
+  pub targetOf-place : n < count - 1 → n ≡ targetOf p count
+  targetOf-place h = sym (min-eq-left (le-of-lt h)) ∙ targetOf-is
 
   -- "at most count - 1"
-  pub target-last : count - 1 ≤ n → count - 1 ≡ targetOf p count
-  target-last h = sym (min-eq-right h) ∙ target-is
+  pub targetOf-last : count - 1 ≤ n → count - 1 ≡ targetOf p count
+  targetOf-last h = sym (min-eq-right h) ∙ targetOf-is
 
-pub target-most : (p : Float) (count : ℕ) → targetOf p count ≤ count - 1
+pub targetOf-most : (p : Float) (count : ℕ) → targetOf p count ≤ count - 1
 unfolding targetOf
-target-most p count = min-le-right _ (count - 1)
+targetOf-most p count = min-le-right _ (count - 1)
 
 -- ---- the walk
 

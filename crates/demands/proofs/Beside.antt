@@ -1,4 +1,4 @@
--- The side laws. Assumes nothing.
+-- What stands beside the three claims. Assumes nothing.
 use mathlib.Core.Path.{_≡_, refl, sym, ap, _∙_}
 use mathlib.Core.Bool.{Bool, true, false, cond, _||_, true≢false}
 use mathlib.Core.List.{List, [], _∷_, map}
@@ -32,7 +32,7 @@ use Rattle.types.specs.declared.Lent.{Lent}
 use Rattle.spec.specs.Picture.{Picture, pictureGreys, composed, pictureTests, syntheticRgbPicture}
 use Rattle.lists.proofs.Counts.{Below, counts-sum}
 use Rattle.raster.proofs.Bands.{or-false}
-use Rattle.demands.specs.Sides.{withMean, Sides}
+use Rattle.demands.specs.Beside.{withMean, Beside}
 use Rattle.demands.proofs.Accepted.{done-or-refused, done-same, done-answer, none-holds, all-clear, both-false, named-lengths}
 use Rattle.demands.proofs.Counted.{count-marks}
 
@@ -176,9 +176,9 @@ module _ (strategy : AutoscaleStrategy) (n : isTamed strategy ≡ false) (mode :
             ∙ ap done (ap (λ (q : Picture). q .grey2) (h .1)),
       )
 
-pub sides : Sides
+pub beside : Beside
 unfolding syntheticRgbPicture createSyntheticRgbByModeAndStrategy
-sides =
+beside =
     record {
       count = count-is;
       bins = bins-sum;

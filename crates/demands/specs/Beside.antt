@@ -41,7 +41,7 @@ withMean m d s =
       p99 = s .p99;
     }
 
-pub record Sides : Type 0 where
+pub record Beside : Type 0 where
   -- "An invented valid count: it equals the number of 1 marks."
   pub count :
       (rows cols : ℕ) (marks : List ℕ) (db : List Float) (s : HistogramStats) → computeHistogramStats rows cols marks db ≡ done s → s .«valid_count» ≡ countOf 1 marks
