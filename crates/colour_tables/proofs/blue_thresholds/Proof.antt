@@ -4,5 +4,8 @@ use Rattle.colour_tables.proofs.Places.{thresholds-right}
 use Rattle.colour_tables.proofs.blue_thresholds.Statement.{statement}
 use Rattle.colour_tables.proofs.blue_thresholds.Tie as tie
 
+returns : tie.Need-returns
+returns c = thresholds-right 1224 0 108 _ (omega arith) (omega arith) tt
+
 pub blue-thresholds-spec : {M : Type 1} → statement M
-blue-thresholds-spec = tie.close (tie.spec (λ c. thresholds-right 1224 0 108 _ (omega arith) (omega arith) tt))
+blue-thresholds-spec = tie.close (tie.spec returns)

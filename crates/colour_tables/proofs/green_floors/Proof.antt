@@ -5,6 +5,9 @@ use Rattle.colour_tables.proofs.Near.{tables-right}
 use Rattle.colour_tables.proofs.green_floors.Statement.{statement}
 use Rattle.colour_tables.proofs.green_floors.Tie as tie
 
-pub green-floors-spec : {M : Type 1} → statement M
+returns : tie.Need-returns
 unfolding greenAbove
-green-floors-spec = tie.close (tie.spec (λ c. tables-right 10 (λ (f : ℕ). (255 - f) ^ 11) (λ (f : ℕ) (v : ℕ). 510 ^ 10 * (v - f) ^ 11) _ tt))
+returns c = tables-right 10 (λ (f : ℕ). (255 - f) ^ 11) (λ (f : ℕ) (v : ℕ). 510 ^ 10 * (v - f) ^ 11) _ tt
+
+pub green-floors-spec : {M : Type 1} → statement M
+green-floors-spec = tie.close (tie.spec returns)

@@ -5,6 +5,9 @@ use Rattle.colour_tables.proofs.Near.{table-right}
 use Rattle.colour_tables.proofs.green_table.Statement.{statement}
 use Rattle.colour_tables.proofs.green_table.Tie as tie
 
-pub green-table-spec : {M : Type 1} → statement M
+returns : tie.Need-returns
 unfolding green
-green-table-spec = tie.close (tie.spec (λ c. table-right 10 (255 ^ 9) (λ (v : ℕ). 510 ^ 10 * v ^ 9) _ tt))
+returns c = table-right 10 (255 ^ 9) (λ (v : ℕ). 510 ^ 10 * v ^ 9) _ tt
+
+pub green-table-spec : {M : Type 1} → statement M
+green-table-spec = tie.close (tie.spec returns)

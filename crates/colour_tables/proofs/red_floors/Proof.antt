@@ -5,6 +5,9 @@ use Rattle.colour_tables.proofs.Near.{tables-right}
 use Rattle.colour_tables.proofs.red_floors.Statement.{statement}
 use Rattle.colour_tables.proofs.red_floors.Tie as tie
 
-pub red-floors-spec : {M : Type 1} → statement M
+returns : tie.Need-returns
 unfolding redAbove
-red-floors-spec = tie.close (tie.spec (λ c. tables-right 20 (λ (f : ℕ). (255 - f) ^ 23) (λ (f : ℕ) (v : ℕ). 510 ^ 20 * (v - f) ^ 23) _ tt))
+returns c = tables-right 20 (λ (f : ℕ). (255 - f) ^ 23) (λ (f : ℕ) (v : ℕ). 510 ^ 20 * (v - f) ^ 23) _ tt
+
+pub red-floors-spec : {M : Type 1} → statement M
+red-floors-spec = tie.close (tie.spec returns)

@@ -5,6 +5,9 @@ use Rattle.colour_tables.proofs.Near.{table-right}
 use Rattle.colour_tables.proofs.red_table.Statement.{statement}
 use Rattle.colour_tables.proofs.red_table.Tie as tie
 
-pub red-table-spec : {M : Type 1} → statement M
+returns : tie.Need-returns
 unfolding red
-red-table-spec = tie.close (tie.spec (λ c. table-right 10 (255 ^ 7) (λ (v : ℕ). 510 ^ 10 * v ^ 7) _ tt))
+returns c = table-right 10 (255 ^ 7) (λ (v : ℕ). 510 ^ 10 * v ^ 7) _ tt
+
+pub red-table-spec : {M : Type 1} → statement M
+red-table-spec = tie.close (tie.spec returns)

@@ -9,6 +9,10 @@ use borrow.Author.Needs.{needs}
 use Rattle.histogram.proofs.compute_histogram_stats.Statement.{statement}
 use Rattle.histogram.proofs.compute_histogram_stats.Tie as tie
 
+returns : tie.Need-returns
+unfolding readStatistics
+returns c = call-shape _ _ _ _ _ (c .before .shape-refusal .ensures) (c .if1 .taken)
+
 first-pass-requires : tie.Need-first-pass-requires
 first-pass-requires c κs =
     let s = shape-accepted _ _ _ _ (sym (c .before .shape-refusal .ensures) ∙ c .if1 .left) in
@@ -35,8 +39,8 @@ returns-3 c =
     call-done _ _ _ _ (sym (b .before .shape-refusal .ensures) ∙ b .if1 .left) _ (sym (f .first-pass .ensures) ∙ c .before .before .m .given .1) _ (c .summary .ensures)
 
 pub compute-histogram-stats-spec : {M : Type 1} → statement M
-unfolding readStatistics
 compute-histogram-stats-spec =
     tie.close
-    (tie.spec (λ c κs. search needs) (λ c. call-shape _ _ _ _ _ (c .before .shape-refusal .ensures) (c .if1 .taken)) first-pass-requires (λ c. search needs) (λ c. search needs) returns-2
+    (tie.spec
+    (λ c κs. search needs) returns first-pass-requires (λ c. search needs) (λ c. search needs) returns-2
     summary-requires returns-3)

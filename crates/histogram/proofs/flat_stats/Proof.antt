@@ -5,6 +5,9 @@ use borrow.Author.Needs.{needs}
 use Rattle.histogram.proofs.flat_stats.Statement.{statement}
 use Rattle.histogram.proofs.flat_stats.Tie as tie
 
-pub flat-stats-spec : {M : Type 1} → statement M
+returns : tie.Need-returns
 unfolding flatPercentile gathered lt ofBits
-flat-stats-spec = tie.close (tie.spec (λ c. search needs) (λ c κs. search needs) (λ c. cc))
+returns c = cc
+
+pub flat-stats-spec : {M : Type 1} → statement M
+flat-stats-spec = tie.close (tie.spec (λ c. search needs) (λ c κs. search needs) returns)

@@ -4,6 +4,9 @@ use Rattle.histogram.specs.Summary.{spanOf, isFlat}
 use Rattle.histogram.proofs.is_flat.Statement.{statement}
 use Rattle.histogram.proofs.is_flat.Tie as tie
 
-pub is-flat-spec : {M : Type 1} → statement M
+returns : tie.Need-returns
 unfolding isFlat spanOf
-is-flat-spec = tie.close (tie.spec (λ c. refl))
+returns c = refl
+
+pub is-flat-spec : {M : Type 1} → statement M
+is-flat-spec = tie.close (tie.spec returns)

@@ -5,6 +5,39 @@ use borrow.Author.Needs.{needs}
 use Rattle.histogram.proofs.spread_stats.Statement.{statement}
 use Rattle.histogram.proofs.spread_stats.Tie as tie
 
+estimate-percentile-requires : tie.Need-estimate-percentile-requires
+estimate-percentile-requires c κs = c .before .before .before .pre
+
+estimate-percentile-requires-2 : tie.Need-estimate-percentile-requires-2
+estimate-percentile-requires-2 c κs = c .before .before .before .before .pre
+
+estimate-percentile-requires-3 : tie.Need-estimate-percentile-requires-3
+estimate-percentile-requires-3 c κs = c .before .before .before .before .before .pre
+
+estimate-percentile-requires-4 : tie.Need-estimate-percentile-requires-4
+estimate-percentile-requires-4 c κs = c .before .before .before .before .before .before .pre
+
+estimate-percentile-requires-5 : tie.Need-estimate-percentile-requires-5
+estimate-percentile-requires-5 c κs = c .before .before .before .before .before .before .before .pre
+
+estimate-percentile-requires-6 : tie.Need-estimate-percentile-requires-6
+estimate-percentile-requires-6 c κs = c .before .before .before .before .before .before .before .before .pre
+
+estimate-percentile-requires-7 : tie.Need-estimate-percentile-requires-7
+estimate-percentile-requires-7 c κs = c .before .before .before .before .before .before .before .before .before .pre
+
+estimate-percentile-requires-8 : tie.Need-estimate-percentile-requires-8
+estimate-percentile-requires-8 c κs = c .before .before .before .before .before .before .before .before .before .before .pre
+
+estimate-percentile-requires-9 : tie.Need-estimate-percentile-requires-9
+estimate-percentile-requires-9 c κs = c .before .before .before .before .before .before .before .before .before .before .before .pre
+
+estimate-percentile-requires-10 : tie.Need-estimate-percentile-requires-10
+estimate-percentile-requires-10 c κs = c .before .before .before .before .before .before .before .before .before .before .before .before .pre
+
+estimate-percentile-requires-11 : tie.Need-estimate-percentile-requires-11
+estimate-percentile-requires-11 c κs = c .before .before .before .before .before .before .before .before .before .before .before .before .before .pre
+
 returns : tie.Need-returns
 unfolding spreadStats spanOf
 returns c =
@@ -14,10 +47,8 @@ returns c =
 pub spread-stats-spec : {M : Type 1} → statement M
 spread-stats-spec =
     tie.close
-    (tie.spec (λ c. search needs) (λ c κs. search needs) (λ c κs. c .before .before .before .pre) (λ c κs. c .before .before .before .before .pre)
-    (λ c κs. c .before .before .before .before .before .pre) (λ c κs. c .before .before .before .before .before .before .pre)
-    (λ c κs. c .before .before .before .before .before .before .before .pre) (λ c κs. c .before .before .before .before .before .before .before .before .pre)
-    (λ c κs. c .before .before .before .before .before .before .before .before .before .pre) (λ c κs. c .before .before .before .before .before .before .before .before .before .before .pre)
-    (λ c κs. c .before .before .before .before .before .before .before .before .before .before .before .pre)
-    (λ c κs. c .before .before .before .before .before .before .before .before .before .before .before .before .pre)
-    (λ c κs. c .before .before .before .before .before .before .before .before .before .before .before .before .before .pre) returns)
+    (tie.spec
+    (λ c. search needs) (λ c κs. search needs) estimate-percentile-requires estimate-percentile-requires-2
+    estimate-percentile-requires-3 estimate-percentile-requires-4 estimate-percentile-requires-5
+    estimate-percentile-requires-6 estimate-percentile-requires-7 estimate-percentile-requires-8
+    estimate-percentile-requires-9 estimate-percentile-requires-10 estimate-percentile-requires-11 returns)

@@ -8,6 +8,9 @@ use borrow.Author.Needs.{needs}
 use Rattle.histogram.proofs.summary.Statement.{statement}
 use Rattle.histogram.proofs.summary.Tie as tie
 
+returns : tie.Need-returns
+returns c = c .flat-stats .ensures ∙ summary-flat _ _ (sym (c .before .before .is-flat .ensures) ∙ c .before .if1 .taken)
+
 fill-bins-requires : tie.Need-fill-bins-requires
 fill-bins-requires c κs =
     let s = c .before .before .before .before .before .before in
@@ -21,5 +24,6 @@ returns-2 c =
 pub summary-spec : {M : Type 1} → statement M
 summary-spec =
     tie.close
-    (tie.spec (λ c κs. search needs) (λ c κs. search needs) (λ c. c .flat-stats .ensures ∙ summary-flat _ _ (sym (c .before .before .is-flat .ensures) ∙ c .before .if1 .taken))
-    (λ c. search needs) fill-bins-requires (λ c. search needs) (λ c κs. search needs) returns-2)
+    (tie.spec
+    (λ c κs. search needs) (λ c κs. search needs) returns (λ c. search needs) fill-bins-requires
+    (λ c. search needs) (λ c κs. search needs) returns-2)

@@ -13,11 +13,18 @@ Inv-loop bytes₀ i₀ bytes i = Filled 0 (length bytes₀) bytes i
 abbrev μ-loop : tie.MeasureT-loop
 μ-loop bytes₀ i₀ bytes i = length bytes₀ - i
 
+loop-holds : tie.Need-loop-holds Inv-loop μ-loop
+loop-holds c = (omega arith, refl, refl)
+
 loop-again : tie.Need-loop-again Inv-loop μ-loop
 loop-again c = step 0 _ _ _ (omega arith) (c .before .loop .inv)
+
+returns : tie.Need-returns Inv-loop μ-loop
+returns c = finish 0 _ _ _ (c .before .loop .inv) (c .loop-test .left)
 
 pub clear-u8-spec : {M : Type 1} → statement M
 clear-u8-spec =
     tie.close
-    (tie.spec Inv-loop μ-loop (λ c. (omega arith, refl, refl)) (λ c. omega arith) (λ c. omega arith) (λ c. omega arith)
-    loop-again (λ c. omega arith) (λ c. finish 0 _ _ _ (c .before .loop .inv) (c .loop-test .left)))
+    (tie.spec
+    Inv-loop μ-loop loop-holds (λ c. omega arith) (λ c. omega arith) (λ c. omega arith) loop-again
+    (λ c. omega arith) returns)

@@ -17,6 +17,9 @@ Inv-loop processed valid-mask₀ i₀ valid-mask i = Done markOf nan processed v
 abbrev μ-loop : tie.MeasureT-loop
 μ-loop processed valid-mask₀ i₀ valid-mask i = length processed - i
 
+loop-holds : tie.Need-loop-holds Inv-loop μ-loop
+loop-holds c = (omega arith, c .before .before .pre, refl)
+
 loop-again : tie.Need-loop-again Inv-loop μ-loop
 loop-again c = let l = c .before .before .before in next markOf nan _ (l .loop .valid-mask) (l .loop .i) _ (omega arith) (c .mark-of .ensures) (l .loop .inv)
 
@@ -27,5 +30,7 @@ returns c =
 
 pub fill-marks-spec : {M : Type 1} → statement M
 fill-marks-spec =
-    tie.close (tie.spec Inv-loop μ-loop (λ c. (omega arith, c .before .before .pre, refl)) (λ c. omega arith) (λ c. omega arith) (λ c κs. search needs) (λ c. omega arith) (λ c. omega arith)
-    (λ c. omega arith) loop-again (λ c. omega arith) returns)
+    tie.close
+    (tie.spec
+    Inv-loop μ-loop loop-holds (λ c. omega arith) (λ c. omega arith) (λ c κs. search needs) (λ c. omega arith)
+    (λ c. omega arith) (λ c. omega arith) loop-again (λ c. omega arith) returns)

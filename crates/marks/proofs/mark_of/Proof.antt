@@ -3,6 +3,13 @@ use Rattle.spec.specs.Marks.{markOf}
 use Rattle.marks.proofs.mark_of.Statement.{statement}
 use Rattle.marks.proofs.mark_of.Tie as tie
 
-pub mark-of-spec : {M : Type 1} → statement M
+returns : tie.Need-returns
 unfolding markOf
-mark-of-spec = tie.close (tie.spec (λ c. simp (c .if1 .taken)) (λ c. simp (c .if1 .left)))
+returns c = simp (c .if1 .taken)
+
+returns-2 : tie.Need-returns-2
+unfolding markOf
+returns-2 c = simp (c .if1 .left)
+
+pub mark-of-spec : {M : Type 1} → statement M
+mark-of-spec = tie.close (tie.spec returns returns-2)

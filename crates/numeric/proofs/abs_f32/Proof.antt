@@ -4,9 +4,17 @@ use Rattle.numeric.proofs.Facts.{holds, fails, abs-below, abs-zero, abs
 use Rattle.numeric.proofs.abs_f32.Statement.{statement}
 use Rattle.numeric.proofs.abs_f32.Tie as tie
 
-pub abs-f32-spec : {M : Type 1} → statement M
+returns : tie.Need-returns
 unfolding ofBits
-abs-f32-spec =
-    tie.close
-    (tie.spec (λ c. abs-below _ (holds (c .if1 .taken))) (λ c. abs-zero binary32 _ (holds (c .before .before .good .0 .1)) (holds (c .if2 .taken)))
-    (λ c. abs-above _ (fails (c .before .if1 .left)) (fails (c .if2 .left))))
+returns c = abs-below _ (holds (c .if1 .taken))
+
+returns-2 : tie.Need-returns-2
+unfolding ofBits
+returns-2 c = abs-zero binary32 _ (holds (c .before .before .good .0 .1)) (holds (c .if2 .taken))
+
+returns-3 : tie.Need-returns-3
+unfolding ofBits
+returns-3 c = abs-above _ (fails (c .before .if1 .left)) (fails (c .if2 .left))
+
+pub abs-f32-spec : {M : Type 1} → statement M
+abs-f32-spec = tie.close (tie.spec returns returns-2 returns-3)

@@ -7,5 +7,8 @@ use Rattle.numeric.proofs.clamp_f64.Lts as lts
 use Rattle.numeric.proofs.max_f64.Reads as max-f64-reads
 use Rattle.numeric.proofs.min_f64.Reads as min-f64-reads
 
+returns : tie.Need-returns
+returns c = cc
+
 pub clamp-f64-spec : {M : Type 1} → statement M
-clamp-f64-spec = tie.close (tie.spec (λ c κs. search needs) (λ c κs. search needs) (λ c. cc))
+clamp-f64-spec = tie.close (tie.spec (λ c κs. search needs) (λ c κs. search needs) returns)

@@ -12,6 +12,10 @@ returns : tie.Need-returns
 unfolding div ofBits
 returns c = nan-bits binary32 (c .before .before .args .n) (c .before .if1 .taken) (c .if2 .taken)
 
+float-from-bits-result : tie.Need-float-from-bits-result
+float-from-bits-result c =
+    let n = c .before .args .n in
+    ⊎-elim (λ w. no-nan-digits binary32 n (w .1 .left)) (λ w. no-nan-ones binary32 n (w .left)) (c .if1 .came)
+
 pub f32-from-bits-spec : {M : Type 1} → statement M
-f32-from-bits-spec =
-    tie.close (tie.spec returns (λ c. let n = c .before .args .n in ⊎-elim (λ w. no-nan-digits binary32 n (w .1 .left)) (λ w. no-nan-ones binary32 n (w .left)) (c .if1 .came)) (λ c. search needs))
+f32-from-bits-spec = tie.close (tie.spec returns float-from-bits-result (λ c. search needs))

@@ -12,6 +12,10 @@ returns : tie.Need-returns
 unfolding div ofBits
 returns c = nan-bits binary64 (c .before .before .args .n) (c .before .if1 .taken) (c .if2 .taken)
 
+float-from-bits-result : tie.Need-float-from-bits-result
+float-from-bits-result c =
+    let n = c .before .args .n in
+    ⊎-elim (λ w. no-nan-digits binary64 n (w .1 .left)) (λ w. no-nan-ones binary64 n (w .left)) (c .if1 .came)
+
 pub f64-from-bits-spec : {M : Type 1} → statement M
-f64-from-bits-spec =
-    tie.close (tie.spec returns (λ c. let n = c .before .args .n in ⊎-elim (λ w. no-nan-digits binary64 n (w .1 .left)) (λ w. no-nan-ones binary64 n (w .left)) (c .if1 .came)) (λ c. search needs))
+f64-from-bits-spec = tie.close (tie.spec returns float-from-bits-result (λ c. search needs))

@@ -2,5 +2,11 @@
 use Rattle.numeric.proofs.max_f64.Statement.{statement}
 use Rattle.numeric.proofs.max_f64.Tie as tie
 
+returns : tie.Need-returns
+returns c = simp (c .if1 .taken)
+
+returns-2 : tie.Need-returns-2
+returns-2 c = simp (c .if1 .left)
+
 pub max-f64-spec : {M : Type 1} → statement M
-max-f64-spec = tie.close (tie.spec (λ c. simp (c .if1 .taken)) (λ c. simp (c .if1 .left)))
+max-f64-spec = tie.close (tie.spec returns returns-2)

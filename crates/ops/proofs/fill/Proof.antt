@@ -17,15 +17,23 @@ Inv-loop operation a b out₀ i₀ out i = Done (operate operation) nan nan a b 
 abbrev μ-loop : tie.MeasureT-loop
 μ-loop operation a b out₀ i₀ out i = length a - i
 
+loop-holds : tie.Need-loop-holds Inv-loop μ-loop
+unfolding zipWith
+loop-holds c = (omega arith, c .before .before .before .pre .0, refl)
+
 loop-again : tie.Need-loop-again Inv-loop μ-loop
 loop-again c =
     let l = c .before .before .before .before in
     step _ nan nan _ _ _ _ _ (l .before .before .before .before .pre .1) (omega arith) (c .operate .ensures) (l .loop .inv)
 
-pub fill-spec : {M : Type 1} → statement M
+returns : tie.Need-returns Inv-loop μ-loop
 unfolding zipWith
+returns c = finish _ nan nan _ _ _ _ (c .before .before .before .before .before .pre .1) (c .before .loop .inv) (c .loop-test .left)
+
+pub fill-spec : {M : Type 1} → statement M
 fill-spec =
     tie.close
-    (tie.spec Inv-loop μ-loop (λ c. (omega arith, c .before .before .before .pre .0, refl)) (λ c. omega arith) (λ c. omega arith) (λ c. omega arith) (λ c. omega arith)
-    (λ c κs. search needs) (λ c. omega arith) (λ c. omega arith) (λ c. omega arith) (λ c. omega arith) loop-again (λ c. omega arith)
-    (λ c. finish _ nan nan _ _ _ _ (c .before .before .before .before .before .pre .1) (c .before .loop .inv) (c .loop-test .left)))
+    (tie.spec
+    Inv-loop μ-loop loop-holds (λ c. omega arith) (λ c. omega arith) (λ c. omega arith) (λ c. omega arith)
+    (λ c κs. search needs) (λ c. omega arith) (λ c. omega arith) (λ c. omega arith) (λ c. omega arith) loop-again
+    (λ c. omega arith) returns)

@@ -7,10 +7,26 @@ use Rattle.padding.proofs.Lengths.{accepted}
 use Rattle.padding.proofs.add_padding_to_square_u8.Statement.{statement}
 use Rattle.padding.proofs.add_padding_to_square_u8.Tie as tie
 
-pub add-padding-to-square-u8-spec : {M : Type 1} → statement M
+returns : tie.Need-returns
 unfolding addPaddingToSquare replyNumber
+returns c = when-refused _ _ _ _ _ (c .before .refusal .ensures) (c .if1 .taken)
+
+place-rows-u8-requires : tie.Need-place-rows-u8-requires
+unfolding addPaddingToSquare replyNumber
+place-rows-u8-requires c κs =
+    let k = c .before .before .before in
+    let t = k .before .before in
+    accepted _ _ _ _ _ (t .before .refusal .ensures) (t .if1 .left) _ (k .clear-u8 .ensures)
+
+returns-2 : tie.Need-returns-2
+unfolding addPaddingToSquare replyNumber
+returns-2 c =
+    let p = c .before .before in
+    let t = p .before .before .before .before .before .before in
+    when-done _ _ _ _ _ _ (t .before .refusal .ensures) (t .if1 .left) (p .place-rows-u8 .ensures)
+
+pub add-padding-to-square-u8-spec : {M : Type 1} → statement M
 add-padding-to-square-u8-spec =
     tie.close
-    (tie.spec (λ c κs. search needs) (λ c. when-refused _ _ _ _ _ (c .before .refusal .ensures) (c .if1 .taken)) (λ c κs. search needs)
-    (λ c κs. let k = c .before .before .before in let t = k .before .before in accepted _ _ _ _ _ (t .before .refusal .ensures) (t .if1 .left) _ (k .clear-u8 .ensures)) (λ c. search needs)
-    (λ c. let p = c .before .before in let t = p .before .before .before .before .before .before in when-done _ _ _ _ _ _ (t .before .refusal .ensures) (t .if1 .left) (p .place-rows-u8 .ensures)))
+    (tie.spec
+    (λ c κs. search needs) returns (λ c κs. search needs) place-rows-u8-requires (λ c. search needs) returns-2)

@@ -13,9 +13,22 @@ Inv-loop row padded₀ at i₀ padded i = Copied 0 padded₀ at row padded i
 abbrev μ-loop : tie.MeasureT-loop
 μ-loop row padded₀ at i₀ padded i = length row - i
 
+loop-holds : tie.Need-loop-holds Inv-loop μ-loop
+loop-holds c = copied-none 0 (now (c .args .padded)) (c .args .at) (now (c .args .row))
+
+loop-again : tie.Need-loop-again Inv-loop μ-loop
+loop-again c =
+    let l = c .before .before in
+    copied-step 0 _ _ _ _ _ (l .before .pre) (omega arith) (l .loop .inv)
+
+returns : tie.Need-returns Inv-loop μ-loop
+returns c =
+    let a = c .before .before .args in
+    copied-all 0 (now (a .padded)) (a .at) (now (a .row)) _ _ (c .before .loop .inv) (c .loop-test .left)
+
 pub copy-row-u16-spec : {M : Type 1} → statement M
 copy-row-u16-spec =
     tie.close
-    (tie.spec Inv-loop μ-loop (λ c. copied-none 0 (now (c .args .padded)) (c .args .at) (now (c .args .row))) (λ c. omega arith) (λ c. omega arith) (λ c. omega arith) (λ c. omega arith)
-    (λ c. omega arith) (λ c. omega arith) (λ c. omega arith) (λ c. let l = c .before .before in copied-step 0 _ _ _ _ _ (l .before .pre) (omega arith) (l .loop .inv)) (λ c. omega arith)
-    (λ c. let a = c .before .before .args in copied-all 0 (now (a .padded)) (a .at) (now (a .row)) _ _ (c .before .loop .inv) (c .loop-test .left)))
+    (tie.spec
+    Inv-loop μ-loop loop-holds (λ c. omega arith) (λ c. omega arith) (λ c. omega arith) (λ c. omega arith)
+    (λ c. omega arith) (λ c. omega arith) (λ c. omega arith) loop-again (λ c. omega arith) returns)

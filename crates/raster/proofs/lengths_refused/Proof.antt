@@ -6,6 +6,17 @@ use Rattle.spec.specs.Refusals.{lengthsRefused, unlike}
 use Rattle.raster.proofs.lengths_refused.Statement.{statement}
 use Rattle.raster.proofs.lengths_refused.Tie as tie
 
-pub lengths-refused-spec : {M : Type 1} → statement M
+mul-n : tie.Need-mul-n
 unfolding lengthsRefused unlike
-lengths-refused-spec = tie.close (tie.spec (λ c. omega (arith, mul-le-mul (c .pre .0) (c .pre .1))) (λ c. rw (ne-eqb _ _ (c .if1 .taken))) (λ c. rw (eq-eqb _ _ (c .if1 .left))))
+mul-n c = omega (arith, mul-le-mul (c .pre .0) (c .pre .1))
+
+returns : tie.Need-returns
+unfolding lengthsRefused unlike
+returns c = rw (ne-eqb _ _ (c .if1 .taken))
+
+returns-2 : tie.Need-returns-2
+unfolding lengthsRefused unlike
+returns-2 c = rw (eq-eqb _ _ (c .if1 .left))
+
+pub lengths-refused-spec : {M : Type 1} → statement M
+lengths-refused-spec = tie.close (tie.spec mul-n returns returns-2)

@@ -7,6 +7,9 @@ use borrow.Author.Needs.{needs}
 use Rattle.raster.proofs.marks_refused.Statement.{statement}
 use Rattle.raster.proofs.marks_refused.Tie as tie
 
-pub marks-refused-spec : {M : Type 1} → statement M
+returns : tie.Need-returns
 unfolding marksRefused
-marks-refused-spec = tie.close (tie.spec (λ c κs. search needs) (λ c. ap (ltb 1) (c .greatest-mark .ensures) ∙ any-highest 1 0 (c .before .before .args .valid-mask .now)))
+returns c = ap (ltb 1) (c .greatest-mark .ensures) ∙ any-highest 1 0 (c .before .before .args .valid-mask .now)
+
+pub marks-refused-spec : {M : Type 1} → statement M
+marks-refused-spec = tie.close (tie.spec (λ c κs. search needs) returns)

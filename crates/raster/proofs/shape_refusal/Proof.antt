@@ -6,6 +6,14 @@ use borrow.Author.Needs.{needs}
 use Rattle.raster.proofs.shape_refusal.Statement.{statement}
 use Rattle.raster.proofs.shape_refusal.Tie as tie
 
+returns : tie.Need-returns
+unfolding firstOf
+returns c = rw (sym (c .before .sides-refused .ensures) ∙ c .if1 .taken)
+
+lengths-refused-requires : tie.Need-lengths-refused-requires
+unfolding firstOf
+lengths-refused-requires c κs = sides-accepted _ _ (sym (c .before .sides-refused .ensures) ∙ c .if1 .left)
+
 returns-2 : tie.Need-returns-2
 unfolding firstOf
 returns-2 c =
@@ -27,8 +35,7 @@ returns-4 c =
     rw (sym (s .before .sides-refused .ensures) ∙ s .if1 .left, sym (l .before .lengths-refused .ensures) ∙ l .if2 .left, sym (c .before .marks-refused .ensures) ∙ c .if3 .left)
 
 pub shape-refusal-spec : {M : Type 1} → statement M
-unfolding firstOf
 shape-refusal-spec =
     tie.close
-    (tie.spec (λ c κs. search needs) (λ c. rw (sym (c .before .sides-refused .ensures) ∙ c .if1 .taken))
-    (λ c κs. sides-accepted _ _ (sym (c .before .sides-refused .ensures) ∙ c .if1 .left)) returns-2 (λ c κs. search needs) returns-3 returns-4)
+    (tie.spec
+    (λ c κs. search needs) returns lengths-refused-requires returns-2 (λ c κs. search needs) returns-3 returns-4)

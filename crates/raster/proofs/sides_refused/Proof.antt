@@ -4,6 +4,13 @@ use Rattle.spec.specs.Refusals.{sidesRefused}
 use Rattle.raster.proofs.sides_refused.Statement.{statement}
 use Rattle.raster.proofs.sides_refused.Tie as tie
 
-pub sides-refused-spec : {M : Type 1} → statement M
+returns : tie.Need-returns
 unfolding sidesRefused
-sides-refused-spec = tie.close (tie.spec (λ c. rw (lt-ltb 4096 (c .before .args .rows) (c .if1 .taken))) (λ c. rw (le-ltb 4096 (c .before .args .rows) (c .if1 .left))))
+returns c = rw (lt-ltb 4096 (c .before .args .rows) (c .if1 .taken))
+
+returns-2 : tie.Need-returns-2
+unfolding sidesRefused
+returns-2 c = rw (le-ltb 4096 (c .before .args .rows) (c .if1 .left))
+
+pub sides-refused-spec : {M : Type 1} → statement M
+sides-refused-spec = tie.close (tie.spec returns returns-2)

@@ -16,6 +16,9 @@ Inv-loop xs lo₀ hi₀ i₀ lo hi i = (i ≤ length xs) × (lowest lo (drop i x
 abbrev μ-loop : tie.MeasureT-loop
 μ-loop xs lo₀ hi₀ i₀ lo hi i = length xs - i
 
+loop-holds : tie.Need-loop-holds Inv-loop μ-loop
+loop-holds c = (omega arith, refl, refl)
+
 loop-again : tie.Need-loop-again Inv-loop μ-loop
 loop-again c =
     let l = c .before .before .before .before in
@@ -36,5 +39,6 @@ returns c =
 pub ends-of-spec : {M : Type 1} → statement M
 ends-of-spec =
     tie.close
-    (tie.spec Inv-loop μ-loop (λ c. (omega arith, refl, refl)) (λ c. omega arith) (λ c. omega arith) (λ c κs. search needs) (λ c κs. search needs) (λ c. omega arith) (λ c. omega arith)
-    loop-again returns)
+    (tie.spec
+    Inv-loop μ-loop loop-holds (λ c. omega arith) (λ c. omega arith) (λ c κs. search needs) (λ c κs. search needs)
+    (λ c. omega arith) (λ c. omega arith) loop-again returns)

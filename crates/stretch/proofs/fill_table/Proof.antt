@@ -17,6 +17,9 @@ Inv-loop n lo hi table₀ i₀ table i = (i ≤ n) × (length table ≡ length t
 abbrev μ-loop : tie.MeasureT-loop
 μ-loop n lo hi table₀ i₀ table i = n - i
 
+loop-holds : tie.Need-loop-holds Inv-loop μ-loop
+loop-holds c = (omega arith, refl, λ k h. absurd (not-suc-le-zero h))
+
 loop-again : tie.Need-loop-again Inv-loop μ-loop
 loop-again c =
     let l = c .before .before in
@@ -27,8 +30,12 @@ loop-again c =
       stored (λ k x. x ≡ stretchByte (a .lo) (a .hi) k) t (l .loop .i) (c .stretch-byte .result) (omega arith) (l .loop .inv .2) (c .stretch-byte .ensures),
     )
 
+returns : tie.Need-returns Inv-loop μ-loop
+returns c = λ k h. c .before .loop .inv .2 k (omega arith)
+
 pub fill-table-spec : {M : Type 1} → statement M
 fill-table-spec =
     tie.close
-    (tie.spec Inv-loop μ-loop (λ c. (omega arith, refl, λ k h. absurd (not-suc-le-zero h))) (λ c. omega arith) (λ c κs. search needs) (λ c. omega arith) (λ c. omega arith)
-    (λ c. omega arith) loop-again (λ c. omega arith) (λ c. λ k h. c .before .loop .inv .2 k (omega arith)))
+    (tie.spec
+    Inv-loop μ-loop loop-holds (λ c. omega arith) (λ c κs. search needs) (λ c. omega arith) (λ c. omega arith)
+    (λ c. omega arith) loop-again (λ c. omega arith) returns)

@@ -14,6 +14,15 @@ Inv-loop xs table out₀ i₀ out i = Done (λ x. getD table x 0) 0 xs out i
 abbrev μ-loop : tie.MeasureT-loop
 μ-loop xs table out₀ i₀ out i = length xs - i
 
+loop-holds : tie.Need-loop-holds Inv-loop μ-loop
+loop-holds c = (omega arith, c .pre, refl)
+
+cast-x : tie.Need-cast-x Inv-loop μ-loop
+cast-x c = omega (arith, c .shared-slice-known .given (c .before .before .loop .i))
+
+element-copy-out-out : tie.Need-element-copy-out-out Inv-loop μ-loop
+element-copy-out-out c = omega (arith, c .shared-slice-known .given (c .before .before .loop .i))
+
 loop-again : tie.Need-loop-again Inv-loop μ-loop
 loop-again c =
     let l = c .before .before .before in
@@ -29,5 +38,6 @@ returns c =
 pub look-up-spec : {M : Type 1} → statement M
 look-up-spec =
     tie.close
-    (tie.spec Inv-loop μ-loop (λ c. (omega arith, c .pre, refl)) (λ c. omega arith) (λ c. omega arith) (λ c. omega (arith, c .shared-slice-known .given (c .before .before .loop .i)))
-    (λ c. omega (arith, c .shared-slice-known .given (c .before .before .loop .i))) (λ c. omega arith) (λ c. omega arith) (λ c. omega arith) loop-again (λ c. omega arith) returns)
+    (tie.spec
+    Inv-loop μ-loop loop-holds (λ c. omega arith) (λ c. omega arith) cast-x element-copy-out-out (λ c. omega arith)
+    (λ c. omega arith) (λ c. omega arith) loop-again (λ c. omega arith) returns)

@@ -14,6 +14,15 @@ Inv-loop bytes₀ table i₀ bytes i = Placed (λ x. getD table x 0) 0 bytes₀ 
 abbrev μ-loop : tie.MeasureT-loop
 μ-loop bytes₀ table i₀ bytes i = length bytes₀ - i
 
+loop-holds : tie.Need-loop-holds Inv-loop μ-loop
+loop-holds c = (omega arith, refl, refl, refl)
+
+cast-x : tie.Need-cast-x Inv-loop μ-loop
+cast-x c = omega (arith, c .slice-known .given (c .before .before .loop .i))
+
+element-copy-out-bytes : tie.Need-element-copy-out-bytes Inv-loop μ-loop
+element-copy-out-bytes c = omega (arith, c .slice-known .given (c .before .before .loop .i))
+
 loop-again : tie.Need-loop-again Inv-loop μ-loop
 loop-again c =
     let l = c .before .before .before in
@@ -29,5 +38,6 @@ returns c =
 pub look-up-bytes-spec : {M : Type 1} → statement M
 look-up-bytes-spec =
     tie.close
-    (tie.spec Inv-loop μ-loop (λ c. (omega arith, refl, refl, refl)) (λ c. omega arith) (λ c. omega (arith, c .slice-known .given (c .before .before .loop .i)))
-    (λ c. omega (arith, c .slice-known .given (c .before .before .loop .i))) (λ c. omega arith) (λ c. omega arith) (λ c. omega arith) loop-again (λ c. omega arith) returns)
+    (tie.spec
+    Inv-loop μ-loop loop-holds (λ c. omega arith) cast-x element-copy-out-bytes (λ c. omega arith)
+    (λ c. omega arith) (λ c. omega arith) loop-again (λ c. omega arith) returns)

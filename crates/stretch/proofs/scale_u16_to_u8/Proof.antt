@@ -7,6 +7,18 @@ use borrow.Author.Needs.{needs}
 use Rattle.stretch.proofs.scale_u16_to_u8.Statement.{statement}
 use Rattle.stretch.proofs.scale_u16_to_u8.Tie as tie
 
+returns : tie.Need-returns
+unfolding replyNumber
+returns c =
+    let a = c .before .before .before .args in
+    long-refused (now (a .«data»)) (now (a .out)) (omega arith)
+
+returns-2 : tie.Need-returns-2
+unfolding replyNumber
+returns-2 c =
+    let a = c .before .before .before .before .args in
+    unlike-refused (now (a .«data»)) (now (a .out)) (c .if2 .taken)
+
 returns-3 : tie.Need-returns-3
 unfolding replyNumber
 returns-3 c =
@@ -24,9 +36,8 @@ returns-4 c =
     stretched (n .ends-of .result .lo) (n .ends-of .result .hi) (now (a .«data»)) (now (a .out)) _ (omega arith) (omega arith) (n .ends-of .ensures) (m .stretch-by-table .ensures)
 
 pub scale-u16-to-u8-spec : {M : Type 1} → statement M
-unfolding replyNumber
 scale-u16-to-u8-spec =
     tie.close
-    (tie.spec (λ c. let a = c .before .before .before .args in long-refused (now (a .«data»)) (now (a .out)) (omega arith))
-    (λ c. let a = c .before .before .before .before .args in unlike-refused (now (a .«data»)) (now (a .out)) (c .if2 .taken)) (λ c κs. search needs) (λ c κs. search needs)
-    (λ c. search needs) returns-3 (λ c κs. search needs) (λ c. search needs) returns-4)
+    (tie.spec
+    returns returns-2 (λ c κs. search needs) (λ c κs. search needs) (λ c. search needs) returns-3
+    (λ c κs. search needs) (λ c. search needs) returns-4)

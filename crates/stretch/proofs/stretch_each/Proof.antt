@@ -16,6 +16,9 @@ Inv-loop xs lo hi out₀ i₀ out i = Done (stretchByte lo hi) 0 xs out i
 abbrev μ-loop : tie.MeasureT-loop
 μ-loop xs lo hi out₀ i₀ out i = length xs - i
 
+loop-holds : tie.Need-loop-holds Inv-loop μ-loop
+loop-holds c = (omega arith, c .before .before .pre, refl)
+
 loop-again : tie.Need-loop-again Inv-loop μ-loop
 loop-again c =
     let l = c .before .before .before in
@@ -29,4 +32,8 @@ returns c =
     finish (stretchByte (a .lo) (a .hi)) 0 (now (a .«data»)) (l .loop .out) (l .loop .i) (l .loop .inv) (c .loop-test .left)
 
 pub stretch-each-spec : {M : Type 1} → statement M
-stretch-each-spec = tie.close (tie.spec Inv-loop μ-loop (λ c. (omega arith, c .before .before .pre, refl)) (λ c. omega arith) (λ c. omega arith) (λ c κs. search needs) (λ c. omega arith) (λ c. omega arith) (λ c. omega arith) loop-again (λ c. omega arith) returns)
+stretch-each-spec =
+    tie.close
+    (tie.spec
+    Inv-loop μ-loop loop-holds (λ c. omega arith) (λ c. omega arith) (λ c κs. search needs) (λ c. omega arith)
+    (λ c. omega arith) (λ c. omega arith) loop-again (λ c. omega arith) returns)

@@ -11,8 +11,12 @@ colours-requires c κs =
     let t = c .before .before .before .before in
     (record { reds = t .before .before .red-table .ensures; greens = t .before .green-table .ensures; ratios = t .blue-thresholds .ensures }, search needs, search needs)
 
+returns : tie.Need-returns
+returns c = rw colour-plain at (c .before .before .colours .ensures)
+
 pub create-synthetic-rgb-spec : {M : Type 1} → statement M
 create-synthetic-rgb-spec =
     tie.close
-    (tie.spec (λ c κs. search needs) (λ c κs. search needs) (λ c κs. search needs) (λ c. search needs) colours-requires (λ c. search needs)
-    (λ c. rw colour-plain at (c .before .before .colours .ensures)))
+    (tie.spec
+    (λ c κs. search needs) (λ c κs. search needs) (λ c κs. search needs) (λ c. search needs) colours-requires
+    (λ c. search needs) returns)

@@ -66,6 +66,27 @@ loop-holds c =
           (d .before .tile-start2 .ensures) (d .tile-size2 .ensures),
     )
 
+add-at : tie.Need-add-at Inv-loop μ-loop
+add-at c = omega (arith, inside c)
+
+mul-at : tie.Need-mul-at Inv-loop μ-loop
+mul-at c = omega (arith, inside (c .before))
+
+add-at-2 : tie.Need-add-at-2 Inv-loop μ-loop
+add-at-2 c = omega (arith, inside (c .before))
+
+add-end : tie.Need-add-end Inv-loop μ-loop
+add-end c = omega (arith, inside (c .before))
+
+mul-count-row : tie.Need-mul-count-row Inv-loop μ-loop
+mul-count-row c = omega (arith, inside (c .before))
+
+part-count-row-end : tie.Need-part-count-row-end Inv-loop μ-loop
+part-count-row-end c = omega (arith, inside (c .before))
+
+part-count-row-end-2 : tie.Need-part-count-row-end-2 Inv-loop μ-loop
+part-count-row-end-2 c = omega (arith, inside (c .before .before))
+
 count-row-requires : tie.Need-count-row-requires Inv-loop μ-loop
 count-row-requires c κs =
     let i = c .before .before .before .before in
@@ -115,28 +136,7 @@ pub count-tile-spec : {M : Type 1} → statement M
 count-tile-spec =
     tie.close
     (tie.spec
-    Inv-loop
-    μ-loop
-    (λ c κs. search needs)
-    (λ c κs. search needs)
-    (λ c κs. search needs)
-    (λ c κs. search needs)
-    returns
-    loop-holds
-    (λ c. omega (arith, inside c))
-    (λ c. omega (arith, inside (c .before)))
-    (λ c. omega (arith, inside (c .before)))
-    (λ c. omega (arith, inside (c .before)))
-    (λ c. omega (arith, inside (c .before)))
-    (λ c. search needs)
-    (λ c. search needs)
-    (λ c. omega (arith, inside (c .before)))
-    (λ c. search needs)
-    (λ c. search needs)
-    (λ c. omega (arith, inside (c .before .before)))
-    count-row-requires
-    (λ c. search needs)
-    (λ c. search needs)
-    loop-again
-    (λ c. search needs)
-    returns-2)
+    Inv-loop μ-loop (λ c κs. search needs) (λ c κs. search needs) (λ c κs. search needs) (λ c κs. search needs)
+    returns loop-holds add-at mul-at add-at-2 add-end mul-count-row (λ c. search needs) (λ c. search needs)
+    part-count-row-end (λ c. search needs) (λ c. search needs) part-count-row-end-2 count-row-requires
+    (λ c. search needs) (λ c. search needs) loop-again (λ c. search needs) returns-2)

@@ -7,6 +7,9 @@ use Rattle.clahe.proofs.Scaled.{scale16, scaled-small, scaled-most}
 use Rattle.clahe.proofs.paint.shade_u16.Tie as tie
 use Rattle.clahe.proofs.paint.shade_u16.Statement.{statement}
 
+trunc-small-requires : tie.Need-trunc-small-requires
+trunc-small-requires c κs = scaled-small scale16 _ (c .clamp-f64 .ensures)
+
 cast-result : tie.Need-cast-result
 cast-result c = omega (arith, c .trunc-small .ensures, scaled-most scale16 _ (c .before .clamp-f64 .ensures))
 
@@ -22,9 +25,4 @@ pub shade-u16-spec : {M : Type 1} → statement M
 shade-u16-spec =
     tie.close
     (tie.spec
-    (λ c κs. search needs)
-    (λ c κs. search needs)
-    (λ c κs. search needs)
-    (λ c κs. scaled-small scale16 _ (c .clamp-f64 .ensures))
-    cast-result
-    returns)
+    (λ c κs. search needs) (λ c κs. search needs) (λ c κs. search needs) trunc-small-requires cast-result returns)

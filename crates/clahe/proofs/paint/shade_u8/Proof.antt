@@ -7,6 +7,9 @@ use Rattle.clahe.proofs.Scaled.{scale8, scaled-small, scaled-most}
 use Rattle.clahe.proofs.paint.shade_u8.Tie as tie
 use Rattle.clahe.proofs.paint.shade_u8.Statement.{statement}
 
+trunc-small-requires : tie.Need-trunc-small-requires
+trunc-small-requires c κs = scaled-small scale8 _ (c .clamp-f64 .ensures)
+
 cast-result : tie.Need-cast-result
 cast-result c = omega (arith, c .trunc-small .ensures, scaled-most scale8 _ (c .before .clamp-f64 .ensures))
 
@@ -22,9 +25,4 @@ pub shade-u8-spec : {M : Type 1} → statement M
 shade-u8-spec =
     tie.close
     (tie.spec
-    (λ c κs. search needs)
-    (λ c κs. search needs)
-    (λ c κs. search needs)
-    (λ c κs. scaled-small scale8 _ (c .clamp-f64 .ensures))
-    cast-result
-    returns)
+    (λ c κs. search needs) (λ c κs. search needs) (λ c κs. search needs) trunc-small-requires cast-result returns)

@@ -23,6 +23,21 @@ inside c =
     let s = l .before .before .before .before .before .before .before .before in
     row-fits (s .pre .0 .0) (l .loop .r) (c .before .if1 .taken)
 
+mul-at : tie.Need-mul-at Inv-loop μ-loop
+mul-at c = omega (arith, inside (c .before))
+
+add-end : tie.Need-add-end Inv-loop μ-loop
+add-end c = omega (arith, inside (c .before .before))
+
+mul-row-shades-u8 : tie.Need-mul-row-shades-u8 Inv-loop μ-loop
+mul-row-shades-u8 c = omega (arith, inside (c .before .before))
+
+part-row-shades-u8-end : tie.Need-part-row-shades-u8-end Inv-loop μ-loop
+part-row-shades-u8-end c = omega (arith, inside (c .before .before))
+
+part-row-shades-u8-end-2 : tie.Need-part-row-shades-u8-end-2 Inv-loop μ-loop
+part-row-shades-u8-end-2 c = omega (arith, inside (c .before .before .before))
+
 part-row-shades-u8-end-3 : tie.Need-part-row-shades-u8-end-3 Inv-loop μ-loop
 part-row-shades-u8-end-3 c = let p = c .before .before .before .before in omega (arith, inside p, p .before .before .before .loop .inv .1)
 
@@ -59,26 +74,7 @@ pub shades-u8-spec : {M : Type 1} → statement M
 shades-u8-spec =
     tie.close
     (tie.spec
-    Inv-loop
-    μ-loop
-    (λ c κs. search needs)
-    (λ c. search needs)
-    (λ c κs. search needs)
-    (λ c. omega (arith, inside (c .before)))
-    (λ c. omega (arith, inside (c .before .before)))
-    (λ c. omega (arith, inside (c .before .before)))
-    (λ c. search needs)
-    (λ c. search needs)
-    (λ c. omega (arith, inside (c .before .before)))
-    (λ c. search needs)
-    (λ c. search needs)
-    (λ c. omega (arith, inside (c .before .before .before)))
-    (λ c. search needs)
-    (λ c. search needs)
-    part-row-shades-u8-end-3
-    row-shades-u8-requires
-    (λ c. search needs)
-    (λ c. search needs)
-    loop-again
-    (λ c. search needs)
-    returns)
+    Inv-loop μ-loop (λ c κs. search needs) (λ c. search needs) (λ c κs. search needs) mul-at add-end
+    mul-row-shades-u8 (λ c. search needs) (λ c. search needs) part-row-shades-u8-end (λ c. search needs)
+    (λ c. search needs) part-row-shades-u8-end-2 (λ c. search needs) (λ c. search needs) part-row-shades-u8-end-3
+    row-shades-u8-requires (λ c. search needs) (λ c. search needs) loop-again (λ c. search needs) returns)

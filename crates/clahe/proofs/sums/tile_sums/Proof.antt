@@ -30,6 +30,12 @@ area c =
     let a = s .args in
     (cc (c .before .tile-size .ensures, c .tile-size2 .ensures), area-most (a .sides .rows) (a .sides .cols) (a .k / 8) (a .k % 8) (s .pre .0 .tall) (s .pre .0 .wide))
 
+mul-threshold : tie.Need-mul-threshold
+mul-threshold c = omega (arith, area c)
+
+threshold-requires : tie.Need-threshold-requires
+threshold-requires c κs = omega (arith, area c)
+
 clip-at-requires : tie.Need-clip-at-requires
 clip-at-requires c κs =
     let t = c .before in
@@ -59,15 +65,6 @@ pub tile-sums-spec : {M : Type 1} → statement M
 tile-sums-spec =
     tie.close
     (tie.spec
-    (λ c. search needs)
-    count-tile-requires
-    (λ c κs. search needs)
-    (λ c κs. search needs)
-    (λ c. omega (arith, area c))
-    (λ c κs. omega (arith, area c))
-    (λ c. search needs)
-    clip-at-requires
-    (λ c. search needs)
-    (λ c κs. search needs)
-    (λ c. search needs)
-    returns)
+    (λ c. search needs) count-tile-requires (λ c κs. search needs) (λ c κs. search needs) mul-threshold
+    threshold-requires (λ c. search needs) clip-at-requires (λ c. search needs) (λ c κs. search needs)
+    (λ c. search needs) returns)

@@ -20,6 +20,11 @@ Inv-loop db valid-mask min-db inv-span hist₀ i₀ hist i =
 abbrev μ-loop : tie.MeasureT-loop
 μ-loop db valid-mask min-db inv-span hist₀ i₀ hist i = length db - i
 
+loop-holds : tie.Need-loop-holds Inv-loop μ-loop
+loop-holds c =
+    let s = c .before .before .before in
+    (omega arith, omega arith, λ k. omega arith, refl)
+
 add-hist : tie.Need-add-hist Inv-loop μ-loop
 add-hist c =
     let l = c .before .before .before .before .before .before in
@@ -60,5 +65,7 @@ returns c =
 pub fill-bins-spec : {M : Type 1} → statement M
 fill-bins-spec =
     tie.close
-    (tie.spec Inv-loop μ-loop (λ c. let s = c .before .before .before in (omega arith, omega arith, λ k. omega arith, refl)) (λ c. search needs) (λ c. search needs) (λ c. search needs) (λ c κs. search needs) (λ c. search needs) (λ c. search needs) add-hist
-    (λ c. search needs) (λ c. search needs) (λ c. search needs) (λ c. search needs) loop-again (λ c. search needs) returns)
+    (tie.spec
+    Inv-loop μ-loop loop-holds (λ c. search needs) (λ c. search needs) (λ c. search needs) (λ c κs. search needs)
+    (λ c. search needs) (λ c. search needs) add-hist (λ c. search needs) (λ c. search needs) (λ c. search needs)
+    (λ c. search needs) loop-again (λ c. search needs) returns)

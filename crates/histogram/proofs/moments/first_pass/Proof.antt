@@ -17,6 +17,10 @@ Inv-loop db valid-mask m₀ i₀ m i = Along momentsFrom valid-mask db m i
 abbrev μ-loop : tie.MeasureT-loop
 μ-loop db valid-mask m₀ i₀ m i = length db - i
 
+loop-holds : tie.Need-loop-holds Inv-loop μ-loop
+unfolding firstPass
+loop-holds c = start moments-fold (c .no-moments .ensures)
+
 returns : tie.Need-returns Inv-loop μ-loop
 unfolding firstPass
 returns c =
@@ -30,9 +34,14 @@ loop-again c =
     ⊎-elim (λ w. take moments-fold (l .loop .inv) (omega arith) (omega arith) (w .0 .taken) (w .2 .ensures) (w .3 .left) (w .5 ∙ w .4 .ensures))
     (λ w. rw (w .1) (skip moments-fold (l .loop .inv) (omega arith) (omega arith) (w .0 .left))) (c .if1 .came)
 
-pub first-pass-spec : {M : Type 1} → statement M
+returns-2 : tie.Need-returns-2 Inv-loop μ-loop
 unfolding firstPass
+returns-2 c = finish moments-fold (c .before .loop .inv) (omega arith)
+
+pub first-pass-spec : {M : Type 1} → statement M
 first-pass-spec =
     tie.close
-    (tie.spec Inv-loop μ-loop (λ c κs. search needs) (λ c. start moments-fold (c .no-moments .ensures)) (λ c. search needs) (λ c. search needs) (λ c. search needs) (λ c κs. search needs)
-    returns (λ c κs. search needs) (λ c. search needs) (λ c. search needs) loop-again (λ c. finish moments-fold (c .before .loop .inv) (omega arith)))
+    (tie.spec
+    Inv-loop μ-loop (λ c κs. search needs) loop-holds (λ c. search needs) (λ c. search needs) (λ c. search needs)
+    (λ c κs. search needs) returns (λ c κs. search needs) (λ c. search needs) (λ c. search needs) loop-again
+    returns-2)

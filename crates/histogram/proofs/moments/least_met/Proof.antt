@@ -3,5 +3,11 @@ use borrow.Author.Needs.{needs}
 use Rattle.histogram.proofs.moments.least_met.Statement.{statement}
 use Rattle.histogram.proofs.moments.least_met.Tie as tie
 
+returns-2 : tie.Need-returns-2
+returns-2 c = simp (c .before .if1 .left, c .if2 .taken)
+
+returns-3 : tie.Need-returns-3
+returns-3 c = simp (c .before .if1 .left, c .if2 .left)
+
 pub least-met-spec : {M : Type 1} → statement M
-least-met-spec = tie.close (tie.spec (λ c. search needs) (λ c. simp (c .before .if1 .left, c .if2 .taken)) (λ c. simp (c .before .if1 .left, c .if2 .left)))
+least-met-spec = tie.close (tie.spec (λ c. search needs) returns-2 returns-3)

@@ -4,6 +4,9 @@ use Rattle.spec.specs.Moments.{noMoments}
 use Rattle.histogram.proofs.moments.no_moments.Statement.{statement}
 use Rattle.histogram.proofs.moments.no_moments.Tie as tie
 
-pub no-moments-spec : {M : Type 1} → statement M
+returns : tie.Need-returns
 unfolding noMoments
-no-moments-spec = tie.close (tie.spec (λ c. refl))
+returns c = refl
+
+pub no-moments-spec : {M : Type 1} → statement M
+no-moments-spec = tie.close (tie.spec returns)

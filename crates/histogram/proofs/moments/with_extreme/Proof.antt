@@ -4,6 +4,10 @@ use borrow.Author.Needs.{needs}
 use Rattle.histogram.proofs.moments.with_extreme.Statement.{statement}
 use Rattle.histogram.proofs.moments.with_extreme.Tie as tie
 
-pub with-extreme-spec : {M : Type 1} → statement M
+returns : tie.Need-returns
 unfolding withExtreme
-with-extreme-spec = tie.close (tie.spec (λ c. search needs) (λ c κs. search needs) (λ c κs. search needs) (λ c. cc))
+returns c = cc
+
+pub with-extreme-spec : {M : Type 1} → statement M
+with-extreme-spec =
+    tie.close (tie.spec (λ c. search needs) (λ c κs. search needs) (λ c κs. search needs) returns)

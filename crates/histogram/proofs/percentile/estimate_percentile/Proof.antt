@@ -26,6 +26,10 @@ value-at-requires c κs =
       omega (arith, w, findBin-rank-most (t .result) 0 0 h, s .fits .count, t .ensures, targetOf-most (s .args .p) (s .args .count)),
     )
 
-pub estimate-percentile-spec : {M : Type 1} → statement M
+returns : tie.Need-returns
 unfolding estimatePercentile
-estimate-percentile-spec = tie.close (tie.spec (λ c κs. search needs) find-bin-requires value-at-requires (λ c. cc))
+returns c = cc
+
+pub estimate-percentile-spec : {M : Type 1} → statement M
+estimate-percentile-spec =
+    tie.close (tie.spec (λ c κs. search needs) find-bin-requires value-at-requires returns)

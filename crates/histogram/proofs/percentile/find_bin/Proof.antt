@@ -15,6 +15,15 @@ Inv-loop hist target bin₀ before₀ bin before = (bin < 4096) × (before ≤ t
 abbrev μ-loop : tie.MeasureT-loop
 μ-loop hist target bin₀ before₀ bin before = 4096 - bin
 
+loop-holds : tie.Need-loop-holds Inv-loop μ-loop
+loop-holds c = (omega arith, omega arith, refl)
+
+cast-next : tie.Need-cast-next Inv-loop μ-loop
+cast-next c = omega (arith, c .shared-slice-known .given (c .before .loop .bin))
+
+add-next : tie.Need-add-next Inv-loop μ-loop
+add-next c = omega (arith, c .shared-slice-known .given (c .before .loop .bin))
+
 loop-again : tie.Need-loop-again Inv-loop μ-loop
 loop-again c =
     let l = c .before .before .before in
@@ -36,5 +45,6 @@ returns-2 c =
 pub find-bin-spec : {M : Type 1} → statement M
 find-bin-spec =
     tie.close
-    (tie.spec Inv-loop μ-loop (λ c. (omega arith, omega arith, refl)) (λ c. search needs) (λ c. search needs) (λ c. omega (arith, c .shared-slice-known .given (c .before .loop .bin)))
-    (λ c. omega (arith, c .shared-slice-known .given (c .before .loop .bin))) (λ c. search needs) (λ c. search needs) (λ c. search needs) (λ c. search needs) loop-again returns returns-2)
+    (tie.spec
+    Inv-loop μ-loop loop-holds (λ c. search needs) (λ c. search needs) cast-next add-next (λ c. search needs)
+    (λ c. search needs) (λ c. search needs) (λ c. search needs) loop-again returns returns-2)

@@ -4,8 +4,17 @@ use borrow.Author.Needs.{needs}
 use Rattle.histogram.proofs.percentile.target_of.Statement.{statement}
 use Rattle.histogram.proofs.percentile.target_of.Tie as tie
 
+returns : tie.Need-returns
+returns c = targetOf-none _ _ (c .if1 .taken)
+
+returns-2 : tie.Need-returns-2
+returns-2 c = targetOf-place _ _ _ (c .before .before .f64-as-u64 .ensures) (c .if2 .taken)
+
+returns-3 : tie.Need-returns-3
+returns-3 c = targetOf-last _ _ _ (c .before .before .f64-as-u64 .ensures) (c .if2 .left)
+
 pub target-of-spec : {M : Type 1} → statement M
 target-of-spec =
     tie.close
-    (tie.spec (λ c. search needs) (λ c κs. search needs) (λ c. targetOf-none _ _ (c .if1 .taken)) (λ c. search needs) (λ c. search needs)
-    (λ c. targetOf-place _ _ _ (c .before .before .f64-as-u64 .ensures) (c .if2 .taken)) (λ c. targetOf-last _ _ _ (c .before .before .f64-as-u64 .ensures) (c .if2 .left)))
+    (tie.spec
+    (λ c. search needs) (λ c κs. search needs) returns (λ c. search needs) (λ c. search needs) returns-2 returns-3)

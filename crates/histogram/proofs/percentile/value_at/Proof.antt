@@ -5,6 +5,12 @@ use borrow.Author.Needs.{needs}
 use Rattle.histogram.proofs.percentile.value_at.Statement.{statement}
 use Rattle.histogram.proofs.percentile.value_at.Tie as tie
 
-pub value-at-spec : {M : Type 1} → statement M
+returns : tie.Need-returns
 unfolding valueAt
-value-at-spec = tie.close (tie.spec (λ c. search needs) (λ c. search needs) (λ c. search needs) (λ c. search needs) (λ c. search needs) (λ c. refl))
+returns c = refl
+
+pub value-at-spec : {M : Type 1} → statement M
+value-at-spec =
+    tie.close
+    (tie.spec
+    (λ c. search needs) (λ c. search needs) (λ c. search needs) (λ c. search needs) (λ c. search needs) returns)

@@ -35,6 +35,9 @@ Inv-loop kind red green thresholds cells₀ place₀ i₀ cells place i =
 abbrev μ-loop : tie.MeasureT-loop
 μ-loop kind red green thresholds cells₀ place₀ i₀ cells place i = 65536 - i
 
+loop-holds : tie.Need-loop-holds Inv-loop μ-loop
+loop-holds c = (omega arith, omega arith, λ p. absurd (omega arith), λ k h. absurd (omega arith))
+
 place-from-requires : tie.Need-place-from-requires Inv-loop μ-loop
 place-from-requires c κs =
     let at-loop = c .before .before .before .before in
@@ -78,5 +81,7 @@ returns c =
 pub blue-cells-spec : {M : Type 1} → statement M
 blue-cells-spec =
     tie.close
-    (tie.spec Inv-loop μ-loop (λ c. (omega arith, omega arith, λ p. absurd (omega arith), λ k h. absurd (omega arith))) (λ c κs. search needs) (λ c. search needs) (λ c. search needs)
-    place-from-requires (λ c. search needs) (λ c. search needs) (λ c κs. search needs) (λ c. search needs) (λ c. search needs) (λ c. search needs) loop-again (λ c. search needs) returns)
+    (tie.spec
+    Inv-loop μ-loop loop-holds (λ c κs. search needs) (λ c. search needs) (λ c. search needs) place-from-requires
+    (λ c. search needs) (λ c. search needs) (λ c κs. search needs) (λ c. search needs) (λ c. search needs)
+    (λ c. search needs) loop-again (λ c. search needs) returns)

@@ -4,6 +4,9 @@ use borrow.Author.Needs.{needs}
 use Rattle.synthetic_rgb.proofs.blue.is_dark.Statement.{statement}
 use Rattle.synthetic_rgb.proofs.blue.is_dark.Tie as tie
 
+returns : tie.Need-returns
+returns c = rw (c .enum-told .given .1)
+
 returns-2 : tie.Need-returns-2
 returns-2 c =
     let a = c .before .before .before .before .args in
@@ -15,4 +18,5 @@ returns-3 c =
     rw (c .before .before .kind .given .1, lt-leb (a .v1) _ (c .if1 .left))
 
 pub is-dark-spec : {M : Type 1} → statement M
-is-dark-spec = tie.close (tie.spec (λ c. search needs) (λ c. search needs) (λ c. rw (c .enum-told .given .1)) returns-2 returns-3)
+is-dark-spec =
+    tie.close (tie.spec (λ c. search needs) (λ c. search needs) returns returns-2 returns-3)

@@ -19,6 +19,12 @@ Inv-loop thresholds r g from k₀ k =
 abbrev μ-loop : tie.MeasureT-loop
 μ-loop thresholds r g from k₀ k = length thresholds - k
 
+mul-if1 : tie.Need-mul-if1 Inv-loop μ-loop
+mul-if1 c = record { fits = small (c .wide-u162 .ensures .1) (search needs) }
+
+mul-if1-2 : tie.Need-mul-if1-2 Inv-loop μ-loop
+mul-if1-2 c = record { fits = small (c .before .before .wide-u16 .ensures .1) (search needs) }
+
 returns : tie.Need-returns Inv-loop μ-loop
 returns c =
     let at-n = c .before .before .before in
@@ -45,7 +51,8 @@ returns-2 c =
 pub rank-from-spec : {M : Type 1} → statement M
 rank-from-spec =
     tie.close
-    (tie.spec Inv-loop μ-loop (λ c. search needs) (λ c. search needs) (λ c. search needs) (λ c. search needs) (λ c. search needs) (λ c. search needs) (λ c. search needs)
-    (λ c κs. search needs) (λ c. search needs) (λ c. search needs) (λ c. search needs) (λ c. search needs) (λ c κs. search needs)
-    (λ c. record { fits = small (c .wide-u162 .ensures .1) (search needs) }) (λ c. record { fits = small (c .before .before .wide-u16 .ensures .1) (search needs) }) returns
+    (tie.spec
+    Inv-loop μ-loop (λ c. search needs) (λ c. search needs) (λ c. search needs) (λ c. search needs)
+    (λ c. search needs) (λ c. search needs) (λ c. search needs) (λ c κs. search needs) (λ c. search needs)
+    (λ c. search needs) (λ c. search needs) (λ c. search needs) (λ c κs. search needs) mul-if1 mul-if1-2 returns
     (λ c. search needs) (λ c. search needs) loop-again returns-2)

@@ -9,6 +9,9 @@ use borrow.Author.Needs.{needs}
 use Rattle.synthetic_rgb.proofs.floor.count_both.Statement.{statement}
 use Rattle.synthetic_rgb.proofs.floor.count_both.Tie as tie
 
+count-levels-requires : tie.Need-count-levels-requires
+count-levels-requires c κs = (search needs, search needs, λ k. omega (arith, c .before .before .before .before .pre .3 k))
+
 count-levels-requires-2 : tie.Need-count-levels-requires-2
 count-levels-requires-2 c κs =
     let at-first = c .before .before .before in
@@ -27,4 +30,4 @@ returns c =
 
 pub count-both-spec : {M : Type 1} → statement M
 count-both-spec =
-    tie.close (tie.spec (λ c κs. (search needs, search needs, λ k. omega (arith, c .before .before .before .before .pre .3 k))) count-levels-requires-2 (λ c. search needs) returns)
+    tie.close (tie.spec count-levels-requires count-levels-requires-2 (λ c. search needs) returns)

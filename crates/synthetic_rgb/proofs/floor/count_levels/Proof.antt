@@ -17,6 +17,9 @@ Inv-loop band histogram₀ i₀ histogram i =
 abbrev μ-loop : tie.MeasureT-loop
 μ-loop band histogram₀ i₀ histogram i = length band - i
 
+add-histogram : tie.Need-add-histogram Inv-loop μ-loop
+add-histogram c = omega (arith, c .before .before .before .before .loop .inv .2 (c .before .index .result))
+
 loop-again : tie.Need-loop-again Inv-loop μ-loop
 loop-again c =
     let at-loop = c .before .before .before .before in
@@ -37,6 +40,7 @@ returns c =
 pub count-levels-spec : {M : Type 1} → statement M
 count-levels-spec =
     tie.close
-    (tie.spec Inv-loop μ-loop (λ c. search needs) (λ c. search needs) (λ c κs. search needs) (λ c. search needs) (λ c. search needs)
-    (λ c. omega (arith, c .before .before .before .before .loop .inv .2 (c .before .index .result))) (λ c. search needs) (λ c. search needs) (λ c. search needs) (λ c. search needs)
-    loop-again (λ c. search needs) returns)
+    (tie.spec
+    Inv-loop μ-loop (λ c. search needs) (λ c. search needs) (λ c κs. search needs) (λ c. search needs)
+    (λ c. search needs) add-histogram (λ c. search needs) (λ c. search needs) (λ c. search needs)
+    (λ c. search needs) loop-again (λ c. search needs) returns)

@@ -11,6 +11,9 @@ use borrow.Author.Needs.{needs}
 use Rattle.synthetic_rgb.proofs.floor.floor_level.Statement.{statement}
 use Rattle.synthetic_rgb.proofs.floor.floor_level.Tie as tie
 
+count-both-requires : tie.Need-count-both-requires
+count-both-requires c κs = (search needs, search needs, search needs, zeros-at 256)
+
 returns : tie.Need-returns
 unfolding floorLevel
 returns c =
@@ -26,5 +29,6 @@ returns c =
 pub floor-level-spec : {M : Type 1} → statement M
 floor-level-spec =
     tie.close
-    (tie.spec (λ c. search needs) (λ c κs. (search needs, search needs, search needs, zeros-at 256)) (λ c. search needs) (λ c. search needs) (λ c. search needs) (λ c κs. search needs)
-    (λ c κs. search needs) returns)
+    (tie.spec
+    (λ c. search needs) count-both-requires (λ c. search needs) (λ c. search needs) (λ c. search needs)
+    (λ c κs. search needs) (λ c κs. search needs) returns)
