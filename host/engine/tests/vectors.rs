@@ -5,15 +5,13 @@ use std::fmt::Debug;
 use std::ops::RangeInclusive;
 use std::path::Path;
 
-use engine::c;
+use engine::{AutoscaleStrategy, c};
 
 /// What came of a record: nothing, or what differs.
 type Outcome = Result<(), String>;
 
 /// Elements behind a lent list, which no call may change.
 const BEHIND: usize = 64;
-
-const CLAHE: u8 = 4;
 
 // ---- elements
 
@@ -166,7 +164,7 @@ fn as_numbers(a: f64, b: f64) -> bool {
 
 /// Work is as it was, unless the call is done under Clahe: then what was not lent is.
 fn is_work(record: &Record, work: &Lent<f64>) -> Outcome {
-    let free = record.reply == 0 && record.strategy == CLAHE;
+    let free = record.reply == 0 && record.strategy == AutoscaleStrategy::Clahe.code();
     work.is_untouched_from("work", if free { work.len } else { 0 })
 }
 
@@ -203,19 +201,14 @@ fn arithmetic(record: &Record) -> Outcome {
     out.is("result", &expected)
 }
 
-fn pad_u8(record: &Record) -> Outcome {
-    record.has(2)?;
-    let (data, expected) = (record.list::<u8>(0)?, record.list(1)?);
-    let mut out = Lent::new(expected.len());
-    record.answers(unsafe { c::quicklook_pad_u8(record.rows, record.cols, data.as_ptr(), data.len(), out.ptr(), out.len) })?;
-    out.is("padded", &expected)
-}
+/// The padding call at one depth.
+type Pad<T> = unsafe extern "C" fn(usize, usize, *const T, usize, *mut T, usize) -> u8;
 
-fn pad_u16(record: &Record) -> Outcome {
+fn pad<T: Element>(record: &Record, call: Pad<T>) -> Outcome {
     record.has(2)?;
-    let (data, expected) = (record.list::<u16>(0)?, record.list(1)?);
+    let (data, expected) = (record.list::<T>(0)?, record.list(1)?);
     let mut out = Lent::new(expected.len());
-    record.answers(unsafe { c::quicklook_pad_u16(record.rows, record.cols, data.as_ptr(), data.len(), out.ptr(), out.len) })?;
+    record.answers(unsafe { call(record.rows, record.cols, data.as_ptr(), data.len(), out.ptr(), out.len) })?;
     out.is("padded", &expected)
 }
 
@@ -284,35 +277,15 @@ fn work_of(record: &Record, k: usize) -> Result<Lent<f64>, String> {
     }
 }
 
-fn grey_u8(record: &Record) -> Outcome {
-    record.has(4)?;
-    let (db, valid_mask, expected) = (record.list::<f64>(0)?, record.list::<u8>(1)?, record.list(3)?);
-    let (mut out, mut work) = (Lent::new(expected.len()), work_of(record, 2)?);
-    record.answers(unsafe {
-        c::quicklook_grey_u8(
-            record.strategy,
-            record.rows,
-            record.cols,
-            db.as_ptr(),
-            db.len(),
-            valid_mask.as_ptr(),
-            valid_mask.len(),
-            out.ptr(),
-            out.len,
-            work.ptr(),
-            work.len,
-        )
-    })?;
-    out.is("greys", &expected)?;
-    is_work(record, &work)
-}
+/// The grey call at one depth.
+type Grey<T> = unsafe extern "C" fn(u8, usize, usize, *const f64, usize, *const u8, usize, *mut T, usize, *mut f64, usize) -> u8;
 
-fn grey_u16(record: &Record) -> Outcome {
+fn grey<T: Element>(record: &Record, call: Grey<T>) -> Outcome {
     record.has(4)?;
     let (db, valid_mask, expected) = (record.list::<f64>(0)?, record.list::<u8>(1)?, record.list(3)?);
     let (mut out, mut work) = (Lent::new(expected.len()), work_of(record, 2)?);
     record.answers(unsafe {
-        c::quicklook_grey_u16(
+        call(
             record.strategy,
             record.rows,
             record.cols,
@@ -375,15 +348,15 @@ fn replay(record: &Record, ops: &RangeInclusive<u8>) -> Outcome {
         op if !ops.contains(&op) => Err(format!("op {op} is not one of this file")),
         1 => statistics(record),
         2 => window(record),
-        3 => grey_u8(record),
-        4 => grey_u16(record),
+        3 => grey(record, c::quicklook_grey_u8),
+        4 => grey(record, c::quicklook_grey_u16),
         5 => picture(record),
         6 => stretch(record),
         7 => compose(record),
         8..=12 => arithmetic(record),
         13 => marks(record),
-        14 => pad_u8(record),
-        15 => pad_u16(record),
+        14 => pad(record, c::quicklook_pad_u8),
+        15 => pad(record, c::quicklook_pad_u16),
         op => Err(format!("op {op} names no call")),
     }
 }
