@@ -1,22 +1,23 @@
--- The painting of a band, a pixel at a time. Assumes nothing.
+-- The painting of a band, a pixel and a block at a time. Assumes nothing.
 use mathlib.Core.Path.{_≡_, refl, sym, ap, _∙_, subst}
-use mathlib.Core.Bool.{cond}
-use mathlib.Core.List.{List, [], _∷_, _++_}
-use Prim.Native.Nat.{ℕ, zero, suc, _+_, _≤_, _<_, min, max}
-use native.Mathlib.Nat.{add-zero}
-use native.Mathlib.Numerals.{add-one}
+use mathlib.Core.Bool.{Bool, cond}
+use mathlib.Core.List.{List, [], _∷_, _++_, map, map-append, zipWith}
+use Prim.Native.Nat.{ℕ, zero, suc, _+_, _-_, _≤_, _<_, min}
+use native.Mathlib.Nat.{add-zero, suc-inj, le-of-suc-le-suc, not-suc-le-zero}
+use native.Mathlib.Decide.{decLt}
 use native.Mathlib.Omega.{arith}
 use borrow.Author.Tests.{ne-eqb}
 use lib.Dec.{T, eqb}
-use lib.ListN.{length, take, set, getD}
-use lib.Seq.{getD-drop, take-suc-set}
+use lib.ListN.{length, take, drop, getD, replicate, length-drop, length-map}
+use lib.Seq.{getD-drop, length-take-le, take-append-add, take-at, take-add}
 use lib.Ieee.{Float, nan, le, ofBits, toUnsigned}
 use Rattle.spec.specs.Floats.{zero64, clampFloat}
-use Rattle.spec.specs.Lists.{lowest, highest}
+use Rattle.spec.specs.Lists.{lowest}
 use Rattle.spec.specs.Pixels.{Pixel, off, pixel, pixels}
 use Rattle.spec.specs.Value.{full8, full16, valueOf, paint}
+use Rattle.lists.proofs.Zip.{zip-take, zip-drop}
 use Rattle.numeric.proofs.Small.{clampFloat-small, clampFloat-cut}
-use Rattle.raster.proofs.Bands.{drop-pixels}
+use Rattle.raster.proofs.Bands.{drop-pixels, pixels-length}
 
 -- ---- one value: what is cut lies within 0..full, and full is at most 65535
 pub record Full (full : Float) (most : ℕ) : Type 0 where
@@ -36,8 +37,9 @@ module _ {full : Float} {most : ℕ} (f : Full full most) (x : Float) where
   pub small : T (le zero64 (clampFloat zero64 full x)) × T (le (clampFloat zero64 full x) full16)
   small = clampFloat-small full x (f .least) (f .within)
 
-  pub cut : toUnsigned 64 (clampFloat zero64 full x) ≤ most
-  cut = subst (λ (n : ℕ). toUnsigned 64 (clampFloat zero64 full x) ≤ n) (f .whole) (clampFloat-cut full x (f .least))
+  -- what is cut from it fits
+  pub cut : {y : Float} {n : ℕ} → y ≡ clampFloat zero64 full x → n ≡ toUnsigned 64 y → n ≤ most
+  cut e t = subst (λ (n : ℕ). n ≤ most) (sym (t ∙ ap (toUnsigned 64) e)) (subst (λ (n : ℕ). toUnsigned 64 (clampFloat zero64 full x) ≤ n) (f .whole) (clampFloat-cut full x (f .least)))
 
 -- ---- one pixel
 pub paint-pixel : (full low high range : Float) (m : ℕ) (v : Float) → cond (eqb m 0) 0 (valueOf full low high range v) ≡ paint full low high range (pixel m v)
@@ -45,24 +47,84 @@ unfolding paint pixel
 paint-pixel full low high range zero v = refl
 paint-pixel full low high range (suc m) v = rw (ne-eqb (suc m) 0 (λ e. omega (arith, e)))
 
+-- a valid pixel
+pub paint-valid : (full low high range : Float) (m : ℕ) (v : Float) → 0 < m → valueOf full low high range v ≡ paint full low high range (pixel m v)
+unfolding paint pixel
+paint-valid full low high range zero v h = absurd (omega arith)
+paint-valid full low high range (suc m) v h = refl
+
+-- a pixel that is painted from the place read where it is valid, and else 0
+pub paint-read : (full low high range : Float) (m i last place value x : ℕ) (v : Float) (db : List Float) → place ≡ cond (eqb m 0) last i → v ≡ getD db place nan
+    → value ≡ valueOf full low high range v → x ≡ cond (eqb m 0) 0 value → x ≡ paint full low high range (pixel m (getD db i nan))
+paint-read full low high range zero i last place value x v db p e w t = t ∙ paint-pixel full low high range 0 (getD db i nan)
+paint-read full low high range (suc m) i last place value x v db p e w t =
+    let n = ne-eqb (suc m) 0 (λ e. omega (arith, e)) in
+    let here : place ≡ i = p ∙ ap (λ (b : Bool). cond b last i) n in
+    t ∙ ap (λ (b : Bool). cond b 0 value) n ∙ w ∙ ap (valueOf full low high range) (e ∙ ap (λ (k : ℕ). getD db k nan) here) ∙ paint-valid full low high range (suc m) (getD db i nan) (omega arith)
+
+-- the place read is valid if the last one was
+pub read-valid : (m i last place : ℕ) (marks : List ℕ) → place ≡ cond (eqb m 0) last i → m ≡ getD marks i 0 → i < length marks → (last < length marks) × (0 < getD marks last 0)
+    → (place < length marks) × (0 < getD marks place 0)
+read-valid zero i last place marks p e h l = subst (λ (k : ℕ). (k < length marks) × (0 < getD marks k 0)) (sym p) l
+read-valid (suc m) i last place marks p e h l =
+    let n = ne-eqb (suc m) 0 (λ e. omega (arith, e)) in
+    subst (λ (k : ℕ). (k < length marks) × (0 < getD marks k 0)) (sym (p ∙ ap (λ (b : Bool). cond b last i) n)) (h, omega (arith, e))
+
+-- no pixel is valid
+pub paint-none : (full low high range : Float) (marks : List ℕ) (db : List Float) (n : ℕ) → length marks ≡ length db → length db ≡ n → ((k : ℕ) → k < length marks → getD marks k 0 ≡ 0)
+    → replicate n 0 ≡ map (paint full low high range) (pixels marks db)
+unfolding pixels zipWith paint pixel
+paint-none full low high range [] [] n e f h = ap (λ (k : ℕ). replicate k 0) (sym f)
+paint-none full low high range [] (v ∷ db) n e f h = absurd (omega (arith, e))
+paint-none full low high range (m ∷ marks) [] n e f h = absurd (omega (arith, e))
+paint-none full low high range (zero ∷ marks) (v ∷ db) n e f h =
+    ap (λ (k : ℕ). replicate k 0) (sym f) ∙ ap (λ (l : List ℕ). 0 ∷ l) (paint-none full low high range marks db (length db) (suc-inj e) refl (λ k l. h (suc k) (omega (arith, l))))
+paint-none full low high range (suc m ∷ marks) (v ∷ db) n e f h = absurd (omega (arith, h 0 (omega arith)))
+
 -- ---- the pixel at a place
 pub pixels-at : (m : List ℕ) (d : List Float) (i : ℕ) → i < length m → i < length d → pixel (getD m i 0) (getD d i nan) ≡ getD (pixels m d) i off
 pixels-at m d i h k =
     sym (ap (λ (l : List Pixel). getD l 0 off) (drop-pixels m d i h k)) ∙ getD-drop i (pixels m d) 0 off ∙ ap (λ (j : ℕ). getD (pixels m d) j off) (add-zero i)
 
--- ---- the ends of what is painted so far
-lowest-snoc : (m x : ℕ) (xs : List ℕ) → lowest m (xs ++ (x ∷ [])) ≡ min (lowest m xs) x
+-- ---- marks
+lowest-start : (m : ℕ) (xs : List ℕ) → lowest m xs ≤ m
 unfolding lowest
-lowest-snoc m x [] = refl
-lowest-snoc m x (y ∷ ys) = lowest-snoc (min m y) x ys
+lowest-start m [] = omega arith
+lowest-start m (x ∷ xs) = omega (arith, lowest-start (min m x) xs)
 
-highest-snoc : (m x : ℕ) (xs : List ℕ) → highest m (xs ++ (x ∷ [])) ≡ max (highest m xs) x
-unfolding highest
-highest-snoc m x [] = refl
-highest-snoc m x (y ∷ ys) = highest-snoc (max m y) x ys
+pub lowest-under : (m : ℕ) (xs : List ℕ) (k : ℕ) → k < length xs → lowest m xs ≤ getD xs k 0
+unfolding lowest
+lowest-under m [] k h = absurd (not-suc-le-zero h)
+lowest-under m (x ∷ xs) zero h = omega (arith, lowest-start (min m x) xs)
+lowest-under m (x ∷ xs) (suc k) h = lowest-under (min m x) xs k (le-of-suc-le-suc h)
 
-pub lowest-stored : (m lo x : ℕ) (xs : List ℕ) (i : ℕ) → i < length xs → lo ≡ lowest m (take i xs) → min lo x ≡ lowest m (take (i + 1) (set xs i x))
-lowest-stored m lo x xs i h e = rw (add-one) (ap (λ (l : ℕ). min l x) e ∙ sym (lowest-snoc m x (take i xs)) ∙ sym (ap (lowest m) (take-suc-set xs i x h)))
+-- one more place that is not valid
+pub zeros-next : (marks : List ℕ) (i : ℕ) → getD marks i 0 ≡ 0 → ((k : ℕ) → k < i → getD marks k 0 ≡ 0) → (k : ℕ) → k < i + 1 → getD marks k 0 ≡ 0
+zeros-next marks i e h k l = go (decLt k i)
+  where
+    go : Dec (k < i) → getD marks k 0 ≡ 0
+    go (yes b) = h k b
+    go (no b) = let t : k ≡ i = omega (arith, b) in ap (λ (j : ℕ). getD marks j 0) t ∙ e
 
-pub highest-stored : (m hi x : ℕ) (xs : List ℕ) (i : ℕ) → i < length xs → hi ≡ highest m (take i xs) → max hi x ≡ highest m (take (i + 1) (set xs i x))
-highest-stored m hi x xs i h e = rw (add-one) (ap (λ (l : ℕ). max l x) e ∙ sym (highest-snoc m x (take i xs)) ∙ sym (ap (highest m) (take-suc-set xs i x h)))
+-- ---- block by block
+pixels-part : (at n : ℕ) (m : List ℕ) (d : List Float) → pixels (take n (drop at m)) (take n (drop at d)) ≡ take n (drop at (pixels m d))
+unfolding pixels
+pixels-part at n m d = zip-take pixel n (drop at m) (drop at d) ∙ ap (take n) (zip-drop pixel at m d)
+
+pub part-length : {A : Type 0} (at end : ℕ) (xs : List A) → at ≤ end → end ≤ length xs → length (take (end - at) (drop at xs)) ≡ end - at
+part-length at end xs h k = length-take-le (end - at) (drop at xs) (omega (arith, length-drop at xs))
+
+-- the block from `at` to `end` is painted, and what was painted before it stays
+pub block-painted : (g : Pixel → ℕ) (m : List ℕ) (d : List Float) (at end : ℕ) (out ys zs : List ℕ) → at ≤ end → end ≤ length out → length d ≡ length out → length m ≡ length out
+    → ys ≡ map g (pixels (take (end - at) (drop at m)) (take (end - at) (drop at d))) → take at out ≡ map g (take at (pixels m d)) → take end (take at out ++ (ys ++ zs)) ≡ map g (take end (pixels m d))
+block-painted g m d at end out ys zs h k ld lm e t =
+    let px = pixels m d in
+    let n = end - at in
+    let block : ys ≡ map g (take n (drop at px)) = e ∙ ap (map g) (pixels-part at n m d) in
+    let size : length ys ≡ n = ap length block ∙ length-map (take n (drop at px)) g ∙ part-length at end px h (omega (arith, pixels-length m d (omega arith))) in
+    let to : length (take at out) + n ≡ end = omega (arith, length-take-le at out (omega arith)) in
+    let from : at + n ≡ end = omega arith in
+    ap (λ (k : ℕ). take k (take at out ++ (ys ++ zs))) (sym to) ∙ take-append-add (take at out) (ys ++ zs) n
+    ∙ ap (λ (q : List ℕ). take at out ++ q) (take-at ys zs n size)
+    ∙ ap (λ (p : List ℕ). p ++ ys) t ∙ ap (λ (q : List ℕ). map g (take at px) ++ q) block
+    ∙ sym (ap (λ (k : ℕ). map g (take k px)) (sym from) ∙ ap (map g) (take-add at n px) ∙ map-append g (take at px) (take n (drop at px)))

@@ -1,14 +1,18 @@
-// The painting of valid pixels between the ends of a window, outside Clahe, each float step in the source's order.
+// The painting of valid pixels between the ends of a window, outside Clahe, each float step in the source's order. A dB is read where its mark is not
+// 0 and nowhere else (`valid_db`): blocks whose pixels are all valid go without a test, and in the others an invalid pixel works on a valid one's dB.
 use stretch::Ends;
 use types::WindowFloats;
 ghost use mathlib.Core.Path.{_≡_};
 ghost use mathlib.Core.Bool.{cond};
 ghost use mathlib.Core.List.{map};
+ghost use Prim.Native.Nat.{_+_, _<_, min};
 ghost use lib.Dec.{eqb};
-ghost use lib.ListN.{length};
+ghost use lib.Ieee.{nan};
+ghost use lib.ListN.{length, getD};
 ghost use Rattle.spec.specs.Lists.{lowest, highest};
 ghost use Rattle.spec.specs.Pixels.{pixels};
 ghost use Rattle.spec.specs.Value.{full8, full16, valueOf, paint};
+ghost use Rattle.autoscale.specs.Painted.{AllValid, FirstValid};
 
 // Times 255, held to 0..255, truncated.
 fn value_of_u8(v: f64, window: WindowFloats) -> u8
@@ -26,7 +30,7 @@ fn value_of_u16(v: f64, window: WindowFloats) -> u16
     numeric::trunc_small(numeric::clamp_f64(x, 0.0, 65535.0)) as u16
 }
 
-// A value, or 0 where the pixel is invalid. The value is worked out either way, so that no branch stands in the loops below.
+// A value, or 0 where the pixel is invalid.
 fn masked_u8(mark: u8, byte: u8) -> u8
     ensures { λ r. ⌜ r ≡ cond (eqb mark 0) 0 byte ⌝ }
 {
@@ -39,35 +43,213 @@ fn masked_u16(mark: u8, value: u16) -> u16
     if mark == 0 { 0 } else { value }
 }
 
+// The dB of a valid pixel: the one place where painting reads one.
+fn valid_db(db: &[f64], valid_mask: &[u8], i: usize) -> f64
+    requires { ⌜ i < length (now db) ⌝ ∗ ⌜ 0 < getD (now «valid_mask») i 0 ⌝ }
+    ensures { λ r. ⌜ r ≡ getD (now (db .entry)) i nan ⌝ }
+{
+    db[i]
+}
+
+// The least mark, 255 if there is none.
+fn least_mark(valid_mask: &[u8]) -> u8
+    ensures { λ r. ⌜ r ≡ lowest 255 (now («valid_mask» .entry)) ⌝ }
+{
+    let mut least: u8 = 255;
+    let mut i: usize = 0;
+    while i < valid_mask.len() {
+        let mark = valid_mask[i];
+        if mark < least {
+            least = mark;
+        }
+        i += 1;
+    }
+    least
+}
+
+// The place of the first valid pixel, the length if there is none.
+fn first_valid(valid_mask: &[u8]) -> usize
+    ensures { λ r. ⌜ FirstValid (now («valid_mask» .entry)) r ⌝ }
+{
+    let mut i: usize = 0;
+    while i < valid_mask.len() {
+        if valid_mask[i] != 0 {
+            return i;
+        }
+        i += 1;
+    }
+    i
+}
+
+// The place to read at i: i itself, or the last valid place so far where the pixel is invalid.
+fn read_place(mark: u8, i: usize, last: usize) -> usize
+    ensures { λ r. ⌜ r ≡ cond (eqb mark 0) last i ⌝ }
+{
+    if mark == 0 { last } else { i }
+}
+
+// Where the block that begins at a place ends.
+fn block_end(at: usize, n: usize) -> usize
+    requires { ⌜ at < n ⌝ }
+    ensures { λ r. ⌜ r ≡ min (at + 128) n ⌝ }
+{
+    if n - at < 128 { n } else { at + 128 }
+}
+
+// Pixels that are all valid, at 8 bits.
+fn paint_valid_u8(db: &[f64], valid_mask: &[u8], window: WindowFloats, out: &mut [u8])
+    requires { ⌜ length (now db) ≡ length (now out) ⌝ ∗ ⌜ length (now «valid_mask») ≡ length (now out) ⌝ ∗ ⌜ AllValid (now «valid_mask») ⌝ }
+    ensures { λ _. ⌜ now (out .exit) ≡ map (paint full8 (window .low) (window .high) (window .range)) (pixels (now («valid_mask» .entry)) (now (db .entry))) ⌝ }
+{
+    let mut i = 0;
+    while i < out.len() {
+        out[i] = value_of_u8(valid_db(db, valid_mask, i), window);
+        i += 1;
+    }
+}
+
+// Pixels of which `first` is valid, at 8 bits, without a branch.
+fn paint_some_u8(db: &[f64], valid_mask: &[u8], first: usize, window: WindowFloats, out: &mut [u8])
+    requires { ⌜ length (now db) ≡ length (now out) ⌝ ∗ ⌜ length (now «valid_mask») ≡ length (now out) ⌝ ∗ ⌜ (first < length (now out)) × (0 < getD (now «valid_mask») first 0) ⌝ }
+    ensures { λ _. ⌜ now (out .exit) ≡ map (paint full8 (window .low) (window .high) (window .range)) (pixels (now («valid_mask» .entry)) (now (db .entry))) ⌝ }
+{
+    let mut place = first;
+    let mut i = 0;
+    while i < out.len() {
+        let mark = valid_mask[i];
+        place = read_place(mark, i, place);
+        let value = value_of_u8(valid_db(db, valid_mask, place), window);
+        out[i] = masked_u8(mark, value);
+        i += 1;
+    }
+}
+
+// A block at 8 bits.
+fn paint_block_u8(db: &[f64], valid_mask: &[u8], window: WindowFloats, out: &mut [u8])
+    requires { ⌜ length (now db) ≡ length (now out) ⌝ ∗ ⌜ length (now «valid_mask») ≡ length (now out) ⌝ }
+    ensures { λ _. ⌜ now (out .exit) ≡ map (paint full8 (window .low) (window .high) (window .range)) (pixels (now («valid_mask» .entry)) (now (db .entry))) ⌝ }
+{
+    if least_mark(valid_mask) != 0 {
+        paint_valid_u8(db, valid_mask, window, out);
+        return;
+    }
+    let first = first_valid(valid_mask);
+    if first == valid_mask.len() {
+        lists::clear_u8(out);
+        return;
+    }
+    paint_some_u8(db, valid_mask, first, window, out);
+}
+
+// A band at 8 bits, block by block.
+fn paint_blocks_u8(db: &[f64], valid_mask: &[u8], window: WindowFloats, out: &mut [u8])
+    requires { ⌜ length (now db) ≡ length (now out) ⌝ ∗ ⌜ length (now «valid_mask») ≡ length (now out) ⌝ }
+    ensures { λ _. ⌜ now (out .exit) ≡ map (paint full8 (window .low) (window .high) (window .range)) (pixels (now («valid_mask» .entry)) (now (db .entry))) ⌝ }
+{
+    let mut at = 0;
+    while at < out.len() {
+        let end = block_end(at, out.len());
+        paint_block_u8(
+            &db[at..end],
+            &valid_mask[at..end],
+            window,
+            &mut out[at..end],
+        );
+        at = end;
+    }
+}
+
+// The least and the greatest of bytes, 65535 and 0 if there is none.
+fn ends_of_bytes(bytes: &[u8]) -> Ends
+    ensures { λ r. ⌜ (r .lo ≡ lowest 65535 (now (bytes .entry))) × (r .hi ≡ highest 0 (now (bytes .entry))) ⌝ }
+{
+    let mut lo: u16 = 65535;
+    let mut hi: u16 = 0;
+    let mut i = 0;
+    while i < bytes.len() {
+        let x = bytes[i] as u16;
+        lo = stretch::min_u16(lo, x);
+        hi = stretch::max_u16(hi, x);
+        i += 1;
+    }
+    Ends { lo, hi }
+}
+
 // A band at 8 bits, with the least and the greatest of the bytes.
 pub(crate) fn paint_u8(db: &[f64], valid_mask: &[u8], window: WindowFloats, out: &mut [u8]) -> Ends
     requires { ⌜ length (now db) ≡ length (now out) ⌝ ∗ ⌜ length (now «valid_mask») ≡ length (now out) ⌝ }
     ensures { λ r. ⌜ now (out .exit) ≡ map (paint full8 (window .low) (window .high) (window .range)) (pixels (now («valid_mask» .entry)) (now (db .entry))) ⌝ }
     ensures { λ r. ⌜ (r .lo ≡ lowest 65535 (now (out .exit))) × (r .hi ≡ highest 0 (now (out .exit))) ⌝ }
 {
-    let mut lo: u16 = 65535;
-    let mut hi: u16 = 0;
-    let mut i = 0;
-    while i < out.len() {
-        let value = value_of_u8(db[i], window);
-        let x = masked_u8(valid_mask[i], value);
-        out[i] = x;
-        lo = stretch::min_u16(lo, x as u16);
-        hi = stretch::max_u16(hi, x as u16);
-        i += 1;
-    }
-    Ends { lo, hi }
+    paint_blocks_u8(db, valid_mask, window, out);
+    ends_of_bytes(out)
 }
 
-// A band at 16 bits.
-pub(crate) fn paint_u16(db: &[f64], valid_mask: &[u8], window: WindowFloats, out: &mut [u16])
-    requires { ⌜ length (now db) ≡ length (now out) ⌝ ∗ ⌜ length (now «valid_mask») ≡ length (now out) ⌝ }
+// Pixels that are all valid, at 16 bits.
+fn paint_valid_u16(db: &[f64], valid_mask: &[u8], window: WindowFloats, out: &mut [u16])
+    requires { ⌜ length (now db) ≡ length (now out) ⌝ ∗ ⌜ length (now «valid_mask») ≡ length (now out) ⌝ ∗ ⌜ AllValid (now «valid_mask») ⌝ }
     ensures { λ _. ⌜ now (out .exit) ≡ map (paint full16 (window .low) (window .high) (window .range)) (pixels (now («valid_mask» .entry)) (now (db .entry))) ⌝ }
 {
     let mut i = 0;
     while i < out.len() {
-        let value = value_of_u16(db[i], window);
-        out[i] = masked_u16(valid_mask[i], value);
+        out[i] = value_of_u16(valid_db(db, valid_mask, i), window);
         i += 1;
+    }
+}
+
+// Pixels of which `first` is valid, at 16 bits, without a branch.
+fn paint_some_u16(
+    db: &[f64],
+    valid_mask: &[u8],
+    first: usize,
+    window: WindowFloats,
+    out: &mut [u16],
+)
+    requires { ⌜ length (now db) ≡ length (now out) ⌝ ∗ ⌜ length (now «valid_mask») ≡ length (now out) ⌝ ∗ ⌜ (first < length (now out)) × (0 < getD (now «valid_mask») first 0) ⌝ }
+    ensures { λ _. ⌜ now (out .exit) ≡ map (paint full16 (window .low) (window .high) (window .range)) (pixels (now («valid_mask» .entry)) (now (db .entry))) ⌝ }
+{
+    let mut place = first;
+    let mut i = 0;
+    while i < out.len() {
+        let mark = valid_mask[i];
+        place = read_place(mark, i, place);
+        let value = value_of_u16(valid_db(db, valid_mask, place), window);
+        out[i] = masked_u16(mark, value);
+        i += 1;
+    }
+}
+
+// A block at 16 bits.
+fn paint_block_u16(db: &[f64], valid_mask: &[u8], window: WindowFloats, out: &mut [u16])
+    requires { ⌜ length (now db) ≡ length (now out) ⌝ ∗ ⌜ length (now «valid_mask») ≡ length (now out) ⌝ }
+    ensures { λ _. ⌜ now (out .exit) ≡ map (paint full16 (window .low) (window .high) (window .range)) (pixels (now («valid_mask» .entry)) (now (db .entry))) ⌝ }
+{
+    if least_mark(valid_mask) != 0 {
+        paint_valid_u16(db, valid_mask, window, out);
+        return;
+    }
+    let first = first_valid(valid_mask);
+    if first == valid_mask.len() {
+        lists::clear_u16(out);
+        return;
+    }
+    paint_some_u16(db, valid_mask, first, window, out);
+}
+
+// A band at 16 bits, block by block.
+pub(crate) fn paint_u16(db: &[f64], valid_mask: &[u8], window: WindowFloats, out: &mut [u16])
+    requires { ⌜ length (now db) ≡ length (now out) ⌝ ∗ ⌜ length (now «valid_mask») ≡ length (now out) ⌝ }
+    ensures { λ _. ⌜ now (out .exit) ≡ map (paint full16 (window .low) (window .high) (window .range)) (pixels (now («valid_mask» .entry)) (now (db .entry))) ⌝ }
+{
+    let mut at = 0;
+    while at < out.len() {
+        let end = block_end(at, out.len());
+        paint_block_u16(
+            &db[at..end],
+            &valid_mask[at..end],
+            window,
+            &mut out[at..end],
+        );
+        at = end;
     }
 }

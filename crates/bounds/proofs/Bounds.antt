@@ -5,7 +5,7 @@ use lib.Ieee.{Float}
 use Rattle.types.specs.declared.HistogramStats.{HistogramStats}
 use Rattle.spec.specs.Pixels.{pixels}
 use Rattle.spec.specs.Statistics.{statisticsOf}
-use Rattle.numeric.proofs.Within.{Within}
+use Rattle.numeric.proofs.Within.{Within, within-weaken}
 use Rattle.bounds.specs.Bounds.{Between, Percentiles, BoundedStatistics, StatisticsBounded, PercentilesLeast, WindowsBounded}
 use Rattle.bounds.proofs.Statistics.{Bounded, accepted-bounded, accepted-least}
 use Rattle.bounds.proofs.Windows.{ends, window-bounded, picture-window-bounded}
@@ -29,11 +29,11 @@ each P Q f s p =
 bounded : (s : HistogramStats) → Bounded s → BoundedStatistics s
 bounded s b =
     record {
-      least = ends 1000 (lit≤ tt) (s .«min_db») (b .least);
-      greatest = ends 1000 (lit≤ tt) (s .«max_db») (b .greatest);
-      mean = ends 1000 (lit≤ tt) (s .«mean_db») (b .mean);
-      deviation = ends 2000 (lit≤ tt) (s .«std_db») (b .deviation);
-      percentiles = each (Within 2000) (Between 2000) (ends 2000 (lit≤ tt)) s (b .percentiles);
+      least = ends _ (lit≤ tt) (s .«min_db») (within-weaken (s .«min_db») (lit≤ tt) (b .least));
+      greatest = ends _ (lit≤ tt) (s .«max_db») (within-weaken (s .«max_db») (lit≤ tt) (b .greatest));
+      mean = ends _ (lit≤ tt) (s .«mean_db») (within-weaken (s .«mean_db») (lit≤ tt) (b .mean));
+      deviation = ends _ (lit≤ tt) (s .«std_db») (within-weaken (s .«std_db») (lit≤ tt) (b .deviation));
+      percentiles = each (Within 2000) (Between _) (λ x w. ends _ (lit≤ tt) x (within-weaken x (lit≤ tt) w)) s (b .percentiles);
     }
 
 pub statistics-bounded : StatisticsBounded

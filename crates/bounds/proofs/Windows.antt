@@ -172,9 +172,9 @@ limited-window c l =
     let range = maxFloat (sub binary64 (c .high) (c .low)) one64 in
     let w = maxFloat-within (sub binary64 (c .high) (c .low)) one64 (sub-within binary64 14000 14000 (lit≤ tt) (c .high) (c .low) (l .high-within) (l .low-within)) one-within in
     record {
-      low-bounded = ends 100000 (lit≤ tt) (c .low) (within-weaken (c .low) (lit≤ tt) (l .low-within));
-      high-bounded = ends 100000 (lit≤ tt) (c .high) (within-weaken (c .high) (lit≤ tt) (l .high-within));
-      range-bounded = ends 100000 (lit≤ tt) range (within-weaken range (lit≤ tt) w);
+      low-bounded = ends _ (lit≤ tt) (c .low) (within-weaken (c .low) (lit≤ tt) (l .low-within));
+      high-bounded = ends _ (lit≤ tt) (c .high) (within-weaken (c .high) (lit≤ tt) (l .high-within));
+      range-bounded = ends _ (lit≤ tt) range (within-weaken range (lit≤ tt) w);
       range-least = subst (λ (z : Float). T (le z range)) one-is (above-max (sub binary64 (c .high) (c .low)) one64 one-number);
     }
 

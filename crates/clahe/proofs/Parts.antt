@@ -10,6 +10,7 @@ use lib.ListN.{length, getD, take, drop, length-take, length-drop, length-map, L
 use lib.Seq.{length-take-le, getD-take, getD-drop, getD-append-add}
 use Rattle.types.specs.declared.WindowFloats.{WindowFloats}
 use Rattle.spec.specs.Lists.{places}
+use Rattle.lists.proofs.Zip.{zip-take, zip-drop}
 use Rattle.clahe.proofs.Cells.{places-length, places-at}
 use Rattle.spec.specs.Pixels.{pixel, pixels}
 use Rattle.clahe.specs.Band.{normalIn, band}
@@ -26,25 +27,6 @@ module _ {A : Type 0} {B : Type 0} (f : A → B) where
   map-drop (suc n) (x ∷ xs) = map-drop n xs
 
 module _ {A : Type 0} {B : Type 0} {C : Type 0} (f : A → B → C) where
-  zip-take : (n : ℕ) (xs : List A) (ys : List B) → zipWith f (take n xs) (take n ys) ≡ take n (zipWith f xs ys)
-  unfolding zipWith
-  zip-take zero xs ys = refl
-  zip-take (suc n) [] ys = refl
-  zip-take (suc n) (x ∷ xs) [] = refl
-  zip-take (suc n) (x ∷ xs) (y ∷ ys) = ap (λ (l : List C). f x y ∷ l) (zip-take n xs ys)
-
-  zip-none : (xs : List A) → zipWith f xs [] ≡ []
-  unfolding zipWith
-  zip-none [] = refl
-  zip-none (x ∷ xs) = refl
-
-  zip-drop : (n : ℕ) (xs : List A) (ys : List B) → zipWith f (drop n xs) (drop n ys) ≡ drop n (zipWith f xs ys)
-  unfolding zipWith
-  zip-drop zero xs ys = refl
-  zip-drop (suc n) [] ys = refl
-  zip-drop (suc n) (x ∷ xs) [] = zip-none (drop n xs)
-  zip-drop (suc n) (x ∷ xs) (y ∷ ys) = zip-drop n xs ys
-
   pub zip-length : (xs : List A) (ys : List B) → length xs ≡ length ys → length (zipWith f xs ys) ≡ length ys
   unfolding zipWith
   zip-length [] [] e = refl

@@ -44,11 +44,11 @@ pub fn write_sums(hist: &[u32], sums: &mut [f64])
     ensures { λ _. ⌜ now (sums .exit) ≡ map (Clahe.sumAt (now (hist .entry))) (places 256) ⌝ }
 {
     let whole = numeric::max_f64(sum_of(hist) as f64, 1.0);
-    let mut sum: u64 = 0;
+    let mut so_far: u64 = 0;
     let mut b: usize = 0;
     while b < 256 {
-        sum += hist[b] as u64;
-        sums[b] = part(sum, whole);
+        so_far += hist[b] as u64;
+        sums[b] = part(so_far, whole);
         b += 1;
     }
 }

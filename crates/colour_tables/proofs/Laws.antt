@@ -7,7 +7,8 @@ use native.Mathlib.Omega.{arith}
 use borrow.Author.Tests.{ne-eqb}
 use lib.Dec.{leb→le}
 use Rattle.spec.specs.Colour.{reached, level, red, green, blue, redAbove, greenAbove, blueAbove}
-use Rattle.colour_tables.proofs.Levels.{Only, level-is, level-only, no-lower-side, reached-le, reached-mono, zero-pow}
+use Rattle.colour_tables.specs.Colours.{Only}
+use Rattle.colour_tables.proofs.Levels.{level-is, level-only, no-lower-side, reached-le, reached-mono, zero-pow}
 
 -- each of the four rules is level p (w ^ q) (510 ^ p * x ^ q): x of w, to the power q / p
 tone-rises : (p q w : ℕ) {x y : ℕ} → x ≤ y → level p (w ^ q) (510 ^ p * x ^ q) ≤ level p (w ^ q) (510 ^ p * y ^ q)
@@ -36,7 +37,7 @@ pub green-above-rises : (f : ℕ) {v w : ℕ} → v ≤ w → greenAbove f v ≤
 unfolding greenAbove
 green-above-rises f {v} {w} l = tone-rises 10 11 (255 - f) {x = v - f} {y = w - f} (omega arith)
 
--- each is the only byte with its rule
+-- each is the only number with its rule
 pub red-only : (v : ℕ) → v ≤ 255 → Only 10 (255 ^ 7) (510 ^ 10 * v ^ 7) (red v)
 unfolding red
 red-only v l = tone-only 10 7 255 v (omega arith) (omega arith) l

@@ -2,12 +2,13 @@
 use mathlib.Core.Path.{_≡_, refl, sym, subst, ap, _∙_}
 use mathlib.Core.Bool.{Bool, true, false, cond}
 use Prim.Native.Nat.{ℕ, zero, suc, _+_, _*_, _-_, _^_, _≤_, _<_, zero-le}
-use native.Mathlib.Nat.{le-trans, le-of-eq, add-le-add, lt-of-lt-of-le, lt-of-not-le, not-suc-le-zero, pow-suc, mul-zero, zero-mul, pow-le-pow-left, mul-le-mul-right}
+use native.Mathlib.Nat.{le-trans, le-of-eq, add-le-add, lt-of-lt-of-le, lt-of-not-le, not-le-of-lt, not-suc-le-zero, pow-suc, mul-zero, zero-mul, pow-le-pow-left, mul-le-mul-right}
 use native.Mathlib.Omega.{arith}
 use native.Mathlib.Decide.{decLe}
 use borrow.Author.Tests.{le-leb, lt-leb}
 use lib.Dec.{leb}
 use Rattle.spec.specs.Colour.{Rounds, reached, level}
+use Rattle.colour_tables.specs.Colours.{Only}
 
 module _ (p a b r : ℕ) (h : Rounds p a b r) where
   -- below r every half step is reached, from r on none is
@@ -87,10 +88,11 @@ reached-rounds p a b pos (suc n) h = step (decLe ((2 * n + 1) ^ p * a) b) (reach
         omega arith ∙ sym (ap (λ (t : Bool). cond t 1 0 + reached p a b n) (lt-leb _ _ u)) in
         subst (Rounds p a b) s (before u)
 
--- r has the rule, and no other byte has it
-pub record Only (p a b r : ℕ) : Type 0 where
-  pub rounds : Rounds p a b r
-  pub alone : (s : ℕ) → s ≤ 255 → Rounds p a b s → s ≡ r
-
+-- the level is a byte, has the rule, and no other number has it
 pub level-only : (p a b : ℕ) → 0 < p → b < 511 ^ p * a → Only p a b (level p a b)
-level-only p a b pos h = record { rounds = reached-rounds p a b pos 255 h; alone = λ s l g. sym (level-is p a b s g l) }
+level-only p a b pos h = record { byte = reached-le p a b 255; rounds = reached-rounds p a b pos 255 h; alone = λ s g. sym (level-is p a b s g (bounded s g)) }
+  where
+    bounded : (s : ℕ) → Rounds p a b s → s ≤ 255
+    bounded s g =
+        let l : s < 256 = lt-of-not-le (λ (l : 256 ≤ s). not-le-of-lt h (le-trans (mul-le-mul-right a (pow-le-pow-left {n = 511} {m = 2 * s - 1} (omega arith) p)) (g .lower))) in
+        omega arith

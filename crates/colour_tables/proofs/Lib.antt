@@ -3,3 +3,4 @@ pub mod Near
 pub mod Farey
 pub mod Places
 pub mod Laws
+pub mod Colours

@@ -38,9 +38,8 @@ pub fn red_above_table(f: usize) -> [u8; 256]
     requires { ⌜ (3 ≤ f) × (f ≤ 40) ⌝ }
     ensures { λ r. ⌜ Table (redAbove f) r ⌝ }
 {
-    let i = f - 3;
-    let all = red_floors();
-    all[i]
+    let reds = red_floors();
+    reds[f - 3]
 }
 
 // The green of each byte above the floor f.
@@ -48,9 +47,8 @@ pub fn green_above_table(f: usize) -> [u8; 256]
     requires { ⌜ (3 ≤ f) × (f ≤ 40) ⌝ }
     ensures { λ r. ⌜ Table (greenAbove f) r ⌝ }
 {
-    let i = f - 3;
-    let all = green_floors();
-    all[i]
+    let greens = green_floors();
+    greens[f - 3]
 }
 
 // The ratios at which the default blue rises.

@@ -39,7 +39,7 @@ unfolding placesFrom
 places-size i zero = refl
 places-size i (suc n) = ap suc (places-size (suc i) n)
 
-order-size : (ps : List ℕ) (n : ℕ) → Order ps n → length ps ≡ n
+pub order-size : (ps : List ℕ) (n : ℕ) → Order ps n → length ps ≡ n
 order-size ps n o = perm-length o ∙ places-size 0 n
 
 below-places : (i n k : ℕ) → i + n ≤ k → Below k (placesFrom i n)

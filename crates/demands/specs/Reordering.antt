@@ -18,7 +18,7 @@ use Rattle.spec.specs.Places.{Order, moved, movedPicture}
 abbrev pub Reorders : AutoscaleStrategy → Type 0
 Reorders strategy = (strategy ≡ Adaptive → ⊥) × (strategy ≡ Clahe → ⊥)
 
--- every f64 fits binary64. It is said because a list of floats in the logic may hold other numbers as well.
+-- every f64 fits binary64. It is said because a list of floats in the logic may hold other numbers as well; a lent `&[f64]` tells it (runs/src/reordered.rt).
 abbrev pub AreF64 : List Float → Type 0
 AreF64 xs = (i : ℕ) → i < length xs → T (fits binary64 (getD xs i nan))
 

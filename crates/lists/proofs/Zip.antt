@@ -1,11 +1,11 @@
 -- A loop that writes f of the elements of two lists, place by place, to a third. Assumes nothing.
 use mathlib.Core.Path.{_≡_, refl, sym, ap, _∙_}
 use mathlib.Core.List.{List, [], _∷_, _++_, zipWith}
-use Prim.Native.Nat.{ℕ, suc, _+_, _≤_, _<_}
+use Prim.Native.Nat.{ℕ, zero, suc, _+_, _≤_, _<_}
 use native.Mathlib.Nat.{suc-inj}
 use native.Mathlib.Omega.{arith}
 use native.Mathlib.Numerals.{add-one}
-use lib.ListN.{length, take, set, getD, length-set}
+use lib.ListN.{length, take, drop, set, getD, length-set}
 use lib.Seq.{take-suc, take-suc-set, take-all, length-take-le}
 
 module _ {A B C : Type 0} (f : A → B → C) where
@@ -14,6 +14,26 @@ module _ {A B C : Type 0} (f : A → B → C) where
   zip-length [] ys e = refl
   zip-length (x ∷ xs) [] e = absurd (omega (arith, e))
   zip-length (x ∷ xs) (y ∷ ys) e = ap suc (zip-length xs ys (suc-inj e))
+
+  -- parts of both
+  pub zip-take : (n : ℕ) (xs : List A) (ys : List B) → zipWith f (take n xs) (take n ys) ≡ take n (zipWith f xs ys)
+  unfolding zipWith
+  zip-take zero xs ys = refl
+  zip-take (suc n) [] ys = refl
+  zip-take (suc n) (x ∷ xs) [] = refl
+  zip-take (suc n) (x ∷ xs) (y ∷ ys) = ap (λ (l : List C). f x y ∷ l) (zip-take n xs ys)
+
+  zip-none : (xs : List A) → zipWith f xs [] ≡ []
+  unfolding zipWith
+  zip-none [] = refl
+  zip-none (x ∷ xs) = refl
+
+  pub zip-drop : (n : ℕ) (xs : List A) (ys : List B) → zipWith f (drop n xs) (drop n ys) ≡ drop n (zipWith f xs ys)
+  unfolding zipWith
+  zip-drop zero xs ys = refl
+  zip-drop (suc n) [] ys = refl
+  zip-drop (suc n) (x ∷ xs) [] = zip-none (drop n xs)
+  zip-drop (suc n) (x ∷ xs) (y ∷ ys) = zip-drop n xs ys
 
   -- one more element at the end of both
   pub zip-snoc : (xs : List A) (ys : List B) (x : A) (y : B) → length ys ≡ length xs → zipWith f (xs ++ x ∷ []) (ys ++ y ∷ []) ≡ zipWith f xs ys ++ f x y ∷ []

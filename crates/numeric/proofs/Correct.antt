@@ -1,7 +1,7 @@
 -- `sqrtFloat` is correctly rounded: the whole-number root's last digit is rounded off, and no tie exists. Assumes nothing.
 use mathlib.Core.Path.{_≡_, refl, sym, ap, _∙_, subst}
 use Prim.Native.Nat.{ℕ, zero, suc, _+_, _-_, _*_, _/_, _%_, _^_, _≤_, _<_, zero-le, suc-le-suc}
-use native.Mathlib.Nat.{le-trans, le-of-eq, lt-of-lt-of-le, lt-of-le-of-lt, lt-of-not-le, not-le-of-lt, suc-mul, mul-one, mul-assoc, mul-comm, mul-left-comm, mul-mul-mul-comm, mul-add, add-mul, mul-pos, mul-lt-mul-of-pos-right}
+use native.Mathlib.Nat.{le-trans, le-of-eq, lt-of-lt-of-le, lt-of-le-of-lt, lt-of-not-le, not-le-of-lt, zero-mul, suc-mul, mul-one, mul-assoc, mul-comm, mul-left-comm, mul-mul-mul-comm, mul-add, add-mul, mul-pos, mul-lt-mul-of-pos-right}
 use native.Mathlib.Omega.{arith}
 use mathlib.Core.Bool.{true, false, _&&_}
 use lib.Arith.{lt-of-le-ne}
@@ -9,14 +9,15 @@ use lib.IntN.{ℤ, pos, negsuc}
 use lib.Count.{leadingZeros}
 use lib.Dec.{T, ltb, leb, eqb, ltb→lt, leb→le, lit<}
 use lib.Pow.{pow-add, pow-pos, pow-mono, pow-lt, shl-lt}
-use lib.Ieee.{Float, nan, inf, fin, binary64, up, down, round, fits}
+use lib.Ieee.{Float, nan, inf, fin, binary64, up, down, round, lt, ofBits, fits}
 use lib.Ieee.Exact.{HasValue, round-exact}
 use lib.Ieee.Fits.{and-l, and-r, down-pos}
 use lib.Ieee.Positive.{num, den, positive}
+use Rattle.spec.specs.Floats.{zero64}
 use Rattle.spec.specs.Root.{wholeRoot, offset, rootOf, sqrtFloat}
-use Rattle.numeric.specs.Correct.{square, NearestRoot}
+use Rattle.numeric.specs.Correct.{square, NearestRoot, CorrectRoot}
 use Rattle.numeric.proofs.Root.{Floor, square-le}
-use Rattle.numeric.proofs.Rooted.{Lead, lead, placed, root-floor, root-range, shift-is, rootOf-is, level-up}
+use Rattle.numeric.proofs.Rooted.{Lead, lead, placed, root-floor, root-range, shift-is, rootOf-is, level-up, zero-root}
 
 -- ---- the last digit rounded off, by squares
 rounded-off : (n w : ℕ) → Floor n w → (square (2 * ((w + 1) / 2) - 1) ≤ n) × (n < square (2 * ((w + 1) / 2) + 1))
@@ -123,7 +124,7 @@ offset-value m (negsuc i) h =
     below : suc i < 1075 → suc i ≤ 1074
     below h = omega arith
 
--- The theorem: the root of every value above zero, subnormal or not, is the nearest.
+-- the root of every value above zero, subnormal or not, is the nearest
 pub root-nearest : (x : Float) → T (fits binary64 x) → T (positive x) → NearestRoot x (sqrtFloat x)
 unfolding fits sqrtFloat
 root-nearest nan p q = absurd q
@@ -139,3 +140,23 @@ root-nearest (fin false (suc m) e) p q =
     let fine = leb→le (down e) (2 ^ 1074) (and-r (A && B) C (and-l (A && B && C) E p)) in
     let under = ltb→lt (suc m * up e) (2 ^ 1024 * down e) (and-r (A && B && C) E p) in
     nearest (fin false (suc m) e) (suc m) (offset e) (leadingZeros 64 (suc m) - 11) (lead (suc m) (suc-le-suc zero-le) digits) (offset-le m e under) (down-pos e) (offset-value (suc m) e fine)
+
+below-zero : (x : Float) → T (lt x zero64) → sqrtFloat x ≡ nan
+unfolding lt sqrtFloat ofBits
+below-zero nan h = refl
+below-zero (inf true) h = refl
+below-zero (inf false) h = absurd h
+below-zero (fin true zero e) h = let k = ltb→lt 0 (0 * up e * 1 + 0 * down e) h in absurd (omega (arith, k, zero-mul (up e), zero-mul (down e)))
+below-zero (fin true (suc m) e) h = refl
+below-zero (fin false m e) h = let k = ltb→lt (m * up e * 1) (0 * down e) h in absurd (omega (arith, k, zero-mul (down e)))
+
+pub correct-root : CorrectRoot
+unfolding sqrtFloat
+correct-root =
+    record {
+      nearest = root-nearest;
+      zeros = λ x h. sym (zero-root x h);
+      infinity = refl;
+      below-zero = below-zero;
+      not-a-number = refl;
+    }

@@ -1,8 +1,8 @@
 -- What tests on a float show: that it is finite and no NaN, and what |x| is. Assumes nothing.
-use mathlib.Core.Path.{_≡_, refl, sym, subst}
+use mathlib.Core.Path.{_≡_, refl, sym, ap, subst}
 use Prim.Native.Nat.{ℕ, zero, suc, _+_, _*_, _^_, _≤_, _<_, zero-le, suc-le-suc}
 use native.Mathlib.Omega.{arith}
-use mathlib.Core.Bool.{Bool, true, false, not, _&&_, _||_, Bool·beq}
+use mathlib.Core.Bool.{Bool, true, false, cond, not, _&&_, _||_, Bool·beq}
 use lib.IntN.{ℤ, pos, negsuc}
 use lib.Dec.{T, T-not, eqb, ltb→lt, nltb→le, eqb→eq}
 use lib.Pow.{pow-lt}
@@ -18,6 +18,13 @@ holds e = subst T (sym e) tt
 
 pub fails : {b : Bool} → b ≡ false → T (not b)
 fails e = subst (λ (b : Bool). T (not b)) (sym e) tt
+
+-- what `if` gives is what `cond` gives, once the test is known
+pub first : {t : Bool} (a b : Float) → t ≡ true → a ≡ cond t a b
+first a b e = sym (ap (λ (t : Bool). cond t a b) e)
+
+pub second : {t : Bool} (a b : Float) → t ≡ false → b ≡ cond t a b
+second a b e = sym (ap (λ (t : Bool). cond t a b) e)
 
 -- ---- v >= -1000.0 and v <= 1000.0
 abbrev pub thousand : Float

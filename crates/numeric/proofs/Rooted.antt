@@ -16,7 +16,7 @@ use lib.Ieee.Exact.{HasValue, odd-sign, round-exact}
 use lib.Ieee.Fits.{and-i, and-l, eq→eqb, up-pos, down-pos, round-fits}
 use Rattle.spec.specs.Floats.{zero64}
 use Rattle.spec.specs.Root.{wholeRoot, offset, shift, rootOf, sqrtFloat}
-use Rattle.numeric.proofs.Facts.{holds, fails}
+use Rattle.numeric.proofs.Facts.{fails}
 use Rattle.numeric.proofs.Ends.{value-unique}
 use Rattle.numeric.proofs.Root.{Floor, wholeRoot-floor, square-le}
 
@@ -178,14 +178,13 @@ not-nan nan h = absurd (true≢false (sym h))
 not-nan (inf s) h = tt
 not-nan (fin s m e) h = tt
 
-pub zero-root : (x : Float) → T (fits binary64 x) → eq x zero64 ≡ true → x ≡ sqrtFloat x
+pub zero-root : (x : Float) → T (eq x zero64) → x ≡ sqrtFloat x
 unfolding sqrtFloat eq ofBits
-zero-root nan p h = refl
-zero-root (inf true) p h = absurd (true≢false (sym h))
-zero-root (inf false) p h = refl
-zero-root (fin s zero e) p h = refl
-zero-root (fin s (suc m) e) p h =
-    let a = eqb→eq (suc m * up e * 1) (0 * down e) (and-l (eqb (suc m * up e * 1) (0 * down e)) (Bool·beq s false || eqb (suc m * up e * 1) 0) (holds h)) in
+zero-root nan h = refl
+zero-root (inf s) h = absurd h
+zero-root (fin s zero e) h = refl
+zero-root (fin s (suc m) e) h =
+    let a = eqb→eq (suc m * up e * 1) (0 * down e) (and-l (eqb (suc m * up e * 1) (0 * down e)) (Bool·beq s false || eqb (suc m * up e * 1) 0) h) in
     absurd (omega (arith, a, mul-pos {m = suc m} {n = up e} (suc-le-suc zero-le) (up-pos e)))
 
 pub other-root : (x : Float) → lt zero64 x ≡ false → eq x zero64 ≡ false → nan ≡ sqrtFloat x

@@ -63,8 +63,10 @@ pub record Starred : Type 0 where
   -- "Standard: 0, 14 refused 6; 0, 15 done; 0, 40 done; 0, 41 refused 6"
   pub fourteen-u8 : u8 Standard (ofCount 0 ∷ ofCount 14 ∷ []) ≡ refused 6
   pub fourteen-u16 : u16 Standard (ofCount 0 ∷ ofCount 14 ∷ []) ≡ refused 6
-  pub fifteen : number (u8 Standard (ofCount 0 ∷ ofCount 15 ∷ [])) ≡ 0
-  pub forty : number (u8 Standard (ofCount 0 ∷ ofCount 40 ∷ [])) ≡ 0
+  pub fifteen-u8 : number (u8 Standard (ofCount 0 ∷ ofCount 15 ∷ [])) ≡ 0
+  pub fifteen-u16 : number (u16 Standard (ofCount 0 ∷ ofCount 15 ∷ [])) ≡ 0
+  pub forty-u8 : number (u8 Standard (ofCount 0 ∷ ofCount 40 ∷ [])) ≡ 0
+  pub forty-u16 : number (u16 Standard (ofCount 0 ∷ ofCount 40 ∷ [])) ≡ 0
   pub forty-one-u8 : u8 Standard (ofCount 0 ∷ ofCount 41 ∷ []) ≡ refused 6
   pub forty-one-u16 : u16 Standard (ofCount 0 ∷ ofCount 41 ∷ []) ≡ refused 6
   -- "Stretch 0, 1, 2: 0, 128, 255. 7, 7, 7: zeros"

@@ -1,3 +1,4 @@
 pub mod Rules
 pub mod Painted
 pub mod Counted
+pub mod Floors

@@ -18,11 +18,6 @@ pub enum AutoscaleStrategy {
     Default,
 }
 
-pub enum BitDepth {
-    U8,
-    U16,
-}
-
 pub enum SyntheticRgbMode {
     Default,
     RgbRatio,

@@ -10,4 +10,4 @@ pub green-above-table-spec : {M : Type 1} → statement M
 green-above-table-spec =
     tie.close
     (tie.spec
-    (λ c. search needs) (λ c κs. search needs) (λ c. search needs) (λ c. search needs) returns)
+    (λ c κs. search needs) (λ c. search needs) (λ c. search needs) (λ c. search needs) returns)

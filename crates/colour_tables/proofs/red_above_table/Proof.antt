@@ -10,4 +10,4 @@ pub red-above-table-spec : {M : Type 1} → statement M
 red-above-table-spec =
     tie.close
     (tie.spec
-    (λ c. search needs) (λ c κs. search needs) (λ c. search needs) (λ c. search needs) returns)
+    (λ c κs. search needs) (λ c. search needs) (λ c. search needs) (λ c. search needs) returns)

@@ -14,17 +14,17 @@ int-to-float-if2 : tie.Need-int-to-float-if2
 unfolding ofBits
 int-to-float-if2 c = whole-fits binary64 _ (omega (arith, c .before .if1 .taken))
 
-returns : tie.Need-returns
-unfolding ofBits
-returns c =
-    let d = c .before .before in
-    reached binary64 _ _ (d .before .f64-as-u64 .ensures) (omega (arith, d .if1 .taken)) (holds (c .if2 .taken))
-
 returns-2 : tie.Need-returns-2
 unfolding ofBits
 returns-2 c =
     let d = c .before .before in
     short binary64 _ _ (d .before .f64-as-u64 .ensures) (omega (arith, d .if1 .taken)) (fails (c .if2 .left))
+
+returns : tie.Need-returns
+unfolding ofBits
+returns c =
+    let d = c .before .before in
+    reached binary64 _ _ (d .before .f64-as-u64 .ensures) (omega (arith, d .if1 .taken)) (holds (c .if2 .taken))
 
 returns-3 : tie.Need-returns-3
 unfolding ofBits

@@ -13,11 +13,11 @@ cast-n c = fits-back (near _ (c .before .pre))
 add-result : tie.Need-add-result
 add-result c = record { fits = omega (arith, few (near _ (c .before .before .pre))) }
 
-returns : tie.Need-returns
-returns c = reached (near _ (c .before .before .pre)) (c .if1 .taken)
-
 returns-2 : tie.Need-returns-2
 returns-2 c = short (near _ (c .before .before .pre)) (c .if1 .left)
+
+returns : tie.Need-returns
+returns c = reached (near _ (c .before .before .pre)) (c .if1 .taken)
 
 pub round-small-spec : {M : Type 1} → statement M
 round-small-spec = tie.close (tie.spec float-to-int-n cast-n add-result returns returns-2)

@@ -38,7 +38,7 @@ returns-3 c =
     unbounded (d .args .x) _ (b .if1 .taken) (fields (d .args .x) (holds (d .good .0 .1)) (b .if1 .taken)) (c .if3 .left)
 
 returns-4 : tie.Need-returns-4
-returns-4 c = let d = c .before .before in zero-root (d .args .x) (holds (d .good .0 .1)) (c .if4 .taken)
+returns-4 c = zero-root (c .before .before .args .x) (holds (c .if4 .taken))
 
 returns-5 : tie.Need-returns-5
 unfolding div ofBits

@@ -1,4 +1,5 @@
 -- `padding::refusal` meets its contract, test by test. Assumes nothing.
+use Prim.Native.Nat.{_*_}
 use native.Mathlib.Omega.{arith}
 use borrow.Author.Needs.{needs}
 use borrow.Author.Tests.{lt-ltb, le-ltb, eq-eqb, ne-eqb}
@@ -10,37 +11,43 @@ use Rattle.padding.proofs.refusal.Tie as tie
 
 returns : tie.Need-returns
 unfolding firstOf sidesRefused unlike
-returns c = simp (lt-ltb _ _ (c .if1 .taken))
+returns c = simp (lt-ltb 4096 (c .before .args .rows) (omega arith))
 
 returns-2 : tie.Need-returns-2
 unfolding firstOf sidesRefused unlike
-returns-2 c = simp (le-ltb _ _ (c .before .if1 .left), lt-ltb _ _ (c .if2 .taken))
+returns-2 c =
+    let a = c .before .before .args in
+    simp (le-ltb 4096 (a .rows) (omega arith), lt-ltb 4096 (a .cols) (omega arith))
 
 mul-if3 : tie.Need-mul-if3
-unfolding firstOf sidesRefused unlike
-mul-if3 c = omega (arith, product _ _ (c .before .if1 .left) (c .if2 .left))
+mul-if3 c =
+    let a = c .before .before .args in
+    omega (arith, product (a .rows) (a .cols) (omega arith) (omega arith))
 
 returns-3 : tie.Need-returns-3
 unfolding firstOf sidesRefused unlike
-returns-3 c = simp (le-ltb _ _ (c .before .before .if1 .left), le-ltb _ _ (c .before .if2 .left), ne-eqb _ _ (c .if3 .taken))
+returns-3 c =
+    let a = c .before .before .before .args in
+    simp (le-ltb 4096 (a .rows) (omega arith), le-ltb 4096 (a .cols) (omega arith), ne-eqb (a .pixels) (a .rows * a .cols) (omega arith))
 
 mul-if4 : tie.Need-mul-if4
-unfolding firstOf sidesRefused unlike
 mul-if4 c = omega (arith, product (c .larger-side .result) (c .larger-side .result) (omega arith) (omega arith))
 
 returns-4 : tie.Need-returns-4
 unfolding firstOf sidesRefused unlike
 returns-4 c =
-    let b = c .before .before in
+    let s = c .before .larger-side .result in
+    let a = c .before .before .before .before .before .args in
     simp
-    (← c .before .larger-side .ensures, le-ltb _ _ (b .before .before .if1 .left), le-ltb _ _ (b .before .if2 .left), eq-eqb _ _ (b .if3 .left), ne-eqb _ _ (c .if4 .taken))
+    (← c .before .larger-side .ensures, le-ltb 4096 (a .rows) (omega arith), le-ltb 4096 (a .cols) (omega arith), eq-eqb (a .pixels) (a .rows * a .cols) (omega arith), ne-eqb (a .padded) (s * s) (omega arith))
 
 returns-5 : tie.Need-returns-5
 unfolding firstOf sidesRefused unlike
 returns-5 c =
-    let b = c .before .before in
+    let s = c .before .larger-side .result in
+    let a = c .before .before .before .before .before .args in
     simp
-    (← c .before .larger-side .ensures, le-ltb _ _ (b .before .before .if1 .left), le-ltb _ _ (b .before .if2 .left), eq-eqb _ _ (b .if3 .left), eq-eqb _ _ (c .if4 .left))
+    (← c .before .larger-side .ensures, le-ltb 4096 (a .rows) (omega arith), le-ltb 4096 (a .cols) (omega arith), eq-eqb (a .pixels) (a .rows * a .cols) (omega arith), eq-eqb (a .padded) (s * s) (omega arith))
 
 pub refusal-spec : {M : Type 1} → statement M
 refusal-spec =

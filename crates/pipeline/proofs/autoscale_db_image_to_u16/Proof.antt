@@ -8,6 +8,7 @@ use Rattle.spec.specs.Answer.{replyNumber}
 use Rattle.spec.specs.Grey.{values, autoscaleDbImageToU16}
 use Rattle.spec.specs.Pixels.{pixels}
 use Rattle.spec.specs.Value.{full16}
+use Rattle.autoscale.specs.Painted.{opens}
 use Rattle.pipeline.proofs.Greys.{grey-refused, grey-asks, grey-opens, grey-done}
 use Rattle.pipeline.proofs.autoscale_db_image_to_u16.Statement.{statement}
 use Rattle.pipeline.proofs.autoscale_db_image_to_u16.Tie as tie
@@ -21,13 +22,15 @@ returns c =
     let g : WindowAnswer → List ℕ = λ v. values full16 (a .strategy) (a .rows) (a .cols) (pixels (now (a .valid-mask)) (now (a .db))) v in
     grey-refused (a .strategy) (a .rows) (a .cols) (now (a .valid-mask)) (now (a .db)) (now (a .out)) (now (a .work)) g _ (at-window .grey-window .ensures) _ (at-k .window .given .1)
 
+-- a blank window opens too; that it is this band's window is asked where the call returns
 values-u16-requires : tie.Need-values-u16-requires
+unfolding opens
 values-u16-requires c κs =
     let at-match = c .before .before in
     let at-window = at-match .before in
     let a = at-window .before .before .before .before .before .args in (
       grey-asks (a .strategy) (a .rows) (a .cols) (now (a .valid-mask)) (now (a .db)) (now (a .out)) (now (a .work)) (λ v. []) _ (at-window .grey-window .ensures) (at-match .match .keys2),
-      grey-opens (a .strategy) (a .rows) (a .cols) (now (a .valid-mask)) (now (a .db)) (now (a .out)) (now (a .work)) (λ v. []) _ (at-window .grey-window .ensures) (at-match .match .keys2),
+      search (grey-opens (a .strategy) (a .rows) (a .cols) (now (a .valid-mask)) (now (a .db)) (now (a .out)) (now (a .work)) (λ v. []) _ (at-window .grey-window .ensures) (at-match .match .keys2)),
     )
 
 returns-2 : tie.Need-returns-2

@@ -17,7 +17,7 @@ returns-2 : tie.Need-returns-2
 unfolding replyNumber
 returns-2 c =
     let a = c .before .before .before .before .args in
-    unlike-refused (now (a .«data»)) (now (a .out)) (c .if2 .taken)
+    unlike-refused (now (a .«data»)) (now (a .out)) (λ e. omega arith)
 
 returns-3 : tie.Need-returns-3
 unfolding replyNumber

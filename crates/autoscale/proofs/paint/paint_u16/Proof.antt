@@ -1,46 +1,54 @@
--- `autoscale::paint::paint_u16` meets its contract. The invariant: the values before i are those of the pixels before i. Assumes nothing.
-use mathlib.Core.Path.{_≡_, refl, ap, _∙_}
-use mathlib.Core.Bool.{cond}
+-- `autoscale::paint::paint_u16` meets its contract. The invariant: the values before `at` are those of the pixels before `at`. Assumes nothing.
+use mathlib.Core.Path.{_≡_, refl, sym, _∙_}
 use mathlib.Core.List.{map}
-use Prim.Native.Nat.{ℕ, _-_, _≤_}
+use Prim.Native.Nat.{_-_, _≤_}
 use native.Mathlib.Omega.{arith}
 use borrow.Author.Needs.{needs}
 use denote.Ref.{now}
-use lib.Dec.{eqb}
-use lib.Ieee.{nan}
-use lib.ListN.{length, getD, take, length-set}
+use lib.ListN.{length, take}
 use Rattle.spec.specs.Pixels.{off, pixels}
 use Rattle.spec.specs.Value.{full16, paint}
-use Rattle.lists.proofs.Rows.{step, finish}
+use Rattle.lists.proofs.Rows.{finish}
 use Rattle.raster.proofs.Bands.{pixels-length}
-use Rattle.autoscale.proofs.Painting.{paint-pixel, pixels-at}
+use Rattle.autoscale.proofs.Painting.{part-length, block-painted}
 use Rattle.autoscale.proofs.paint.paint_u16.Statement.{statement}
 use Rattle.autoscale.proofs.paint.paint_u16.Tie as tie
 
 abbrev Inv-loop : tie.InvT-loop
-Inv-loop db marks window out₀ i₀ out i =
-    (i ≤ length out₀) × (length out ≡ length out₀) × (take i out ≡ map (paint full16 (window .low) (window .high) (window .range)) (take i (pixels marks db)))
+Inv-loop db marks window out₀ at₀ out at =
+    (at ≤ length out₀) × (length out ≡ length out₀) × (take at out ≡ map (paint full16 (window .low) (window .high) (window .range)) (take at (pixels marks db)))
 
 abbrev μ-loop : tie.MeasureT-loop
-μ-loop db marks window out₀ i₀ out i = length out₀ - i
+μ-loop db marks window out₀ at₀ out at = length out₀ - at
 
 loop-holds : tie.Need-loop-holds Inv-loop μ-loop
 loop-holds c = (omega arith, refl, refl)
 
+paint-block-u16-requires : tie.Need-paint-block-u16-requires Inv-loop μ-loop
+paint-block-u16-requires c κs =
+    let b = c .before .before .before in
+    let l = b .before .before in
+    let a = l .before .before .before .before .args in
+    let at = l .loop .at in
+    let end = b .block-end .result in
+    let o = part-length at end (l .loop .out) (omega (arith, b .block-end .ensures)) (omega (arith, b .block-end .ensures)) in (
+      part-length at end (now (a .db)) (omega (arith, b .block-end .ensures)) (omega (arith, b .block-end .ensures)) ∙ sym o,
+      part-length at end (now (a .valid-mask)) (omega (arith, b .block-end .ensures)) (omega (arith, b .block-end .ensures)) ∙ sym o,
+    )
+
+loop-less : tie.Need-loop-less Inv-loop μ-loop
+loop-less c = omega (arith, c .before .before .before .before .before .before .block-end .ensures)
+
 loop-again : tie.Need-loop-again Inv-loop μ-loop
 loop-again c =
-    let u = c .before .before in
-    let l = u .before .before .before in
-    let a = l .before .before .before .before .args in
-    let o = l .loop .out in
-    let i = l .loop .i in
-    let k = getD (now (a .valid-mask)) (l .loop .i) 0 in
-    let x = c .masked-u16 .result in
-    let g = paint full16 (a .window .low) (a .window .high) (a .window .range) in
-    let e = pixels-length (now (a .valid-mask)) (now (a .db)) (omega arith) in (
-      omega arith,
-      length-set o i x ∙ l .loop .inv .1,
-      step g off (pixels (now (a .valid-mask)) (now (a .db))) o i x (omega arith) (omega arith) (c .masked-u16 .ensures ∙ ap (λ (y : ℕ). cond (eqb k 0) 0 y) (u .value-of-u16 .ensures) ∙ paint-pixel full16 (a .window .low) (a .window .high) (a .window .range) k (getD (now (a .db)) i nan) ∙ ap g (pixels-at (now (a .valid-mask)) (now (a .db)) i (omega arith) (omega arith))) (l .loop .inv .2),
+    let p = c .before .before in
+    let b = p .before .before .before .before in
+    let l = b .before .before in
+    let a = l .before .before .before .before .args in (
+      omega (arith, b .block-end .ensures),
+      omega (arith, c .before .out .given, l .loop .inv .1),
+      block-painted (paint full16 (a .window .low) (a .window .high) (a .window .range)) (now (a .valid-mask)) (now (a .db)) (l .loop .at) (b .block-end .result) (l .loop .out) _ _
+          (omega (arith, b .block-end .ensures)) (omega (arith, b .block-end .ensures)) (omega arith) (omega arith) (p .paint-block-u16 .ensures) (l .loop .inv .2),
     )
 
 returns : tie.Need-returns Inv-loop μ-loop
@@ -48,7 +56,11 @@ returns c =
     let l = c .before in
     let a = l .before .before .before .before .args in
     let e = pixels-length (now (a .valid-mask)) (now (a .db)) (omega arith) in
-    finish (paint full16 (a .window .low) (a .window .high) (a .window .range)) off (pixels (now (a .valid-mask)) (now (a .db))) (l .loop .out) (l .loop .i) (omega arith, omega arith, l .loop .inv .2) (c .loop-test .left)
+    finish (paint full16 (a .window .low) (a .window .high) (a .window .range)) off (pixels (now (a .valid-mask)) (now (a .db))) (l .loop .out) (l .loop .at) (omega arith, omega arith, l .loop .inv .2) (c .loop-test .left)
 
 pub paint-u16-spec : {M : Type 1} → statement M
-paint-u16-spec = tie.close (tie.spec Inv-loop μ-loop loop-holds (λ c. omega arith) (λ c. omega arith) (λ c κs. search needs) (λ c. omega arith) (λ c κs. search needs) (λ c. omega arith) (λ c. omega arith) (λ c. omega arith) (λ c. omega arith) loop-again (λ c. omega arith) returns)
+paint-u16-spec =
+    tie.close
+    (tie.spec
+    Inv-loop μ-loop loop-holds (λ c κs. search needs) (λ c. search needs) (λ c. search needs) (λ c. search needs) (λ c. search needs) (λ c. search needs)
+    (λ c. search needs) (λ c. search needs) (λ c. search needs) (λ c. search needs) (λ c. search needs) (λ c. search needs) paint-block-u16-requires loop-less loop-again (λ c. omega arith) returns)

@@ -1,8 +1,6 @@
 -- `autoscale::paint::value_of_u16` meets its contract. Assumes nothing.
-use mathlib.Core.Path.{ap}
 use native.Mathlib.Omega.{arith}
-use lib.Ieee.{binary64, mul, toUnsigned}
-use Rattle.spec.specs.Value.{full16, valueOf}
+use Rattle.spec.specs.Value.{valueOf}
 use Rattle.autoscale.proofs.Painting.{full-16, small, cut}
 use borrow.Author.Needs.{needs}
 use Rattle.autoscale.proofs.paint.value_of_u16.Statement.{statement}
@@ -12,7 +10,7 @@ trunc-small-requires : tie.Need-trunc-small-requires
 trunc-small-requires c κs = rw (c .clamp-f64 .ensures) (small full-16 _)
 
 cast-result : tie.Need-cast-result
-cast-result c = omega (arith, c .trunc-small .ensures, ap (toUnsigned 64) (c .before .clamp-f64 .ensures), cut full-16 (mul binary64 (c .before .before .normalized .result) full16))
+cast-result c = omega (arith, cut full-16 _ (c .before .clamp-f64 .ensures) (c .trunc-small .ensures))
 
 returns : tie.Need-returns
 unfolding valueOf

@@ -16,12 +16,12 @@ use Rattle.clahe.proofs.sums.write_sums.Statement.{statement}
 use Rattle.clahe.proofs.sums.write_sums.Tie as tie
 
 abbrev Inv-loop : tie.InvT-loop
-Inv-loop hist sums₀ whole sum₀ b₀ sums sum b =
-    (b ≤ 256) × (length sums ≡ 256) × (sum ≤ b * 2 ^ 32) × (sum ≡ sumOf (take b hist))
+Inv-loop hist sums₀ whole so-far₀ b₀ sums so-far b =
+    (b ≤ 256) × (length sums ≡ 256) × (so-far ≤ b * 2 ^ 32) × (so-far ≡ sumOf (take b hist))
     × ((k : ℕ) → k < b → getD sums k nan ≡ sumAt hist k)
 
 abbrev μ-loop : tie.MeasureT-loop
-μ-loop hist sums₀ whole sum₀ b₀ sums sum b = 256 - b
+μ-loop hist sums₀ whole so-far₀ b₀ sums so-far b = 256 - b
 
 int-to-float-max-f64 : tie.Need-int-to-float-max-f64 Inv-loop μ-loop
 int-to-float-max-f64 c = in-float (c .before .sum-of .result) (omega arith)
@@ -30,11 +30,11 @@ loop-holds : tie.Need-loop-holds Inv-loop μ-loop
 unfolding sumOf
 loop-holds c = (omega arith, omega arith, omega arith, refl, λ k h. absurd (omega arith))
 
-cast-sum : tie.Need-cast-sum Inv-loop μ-loop
-cast-sum c = omega (arith, c .shared-slice-known2 .given (c .before .before .loop .b))
+cast-so-far : tie.Need-cast-so-far Inv-loop μ-loop
+cast-so-far c = omega (arith, c .shared-slice-known2 .given (c .before .before .loop .b))
 
-add-sum : tie.Need-add-sum Inv-loop μ-loop
-add-sum c = omega (arith, c .shared-slice-known2 .given (c .before .before .loop .b))
+add-so-far : tie.Need-add-so-far Inv-loop μ-loop
+add-so-far c = omega (arith, c .shared-slice-known2 .given (c .before .before .loop .b))
 
 part-requires : tie.Need-part-requires Inv-loop μ-loop
 part-requires c κs = omega (arith, c .shared-slice-known2 .given (c .before .before .loop .b))
@@ -45,13 +45,13 @@ loop-again c =
     let m = l .before in
     let hs = m .before .before .before .before .before .args .hist .now in
     let b = l .loop .b in
-    let next : sumOf (take (suc b) hs) ≡ l .loop .sum + getD hs b 0 = sum-take hs b (omega arith) ∙ ap (λ (n : ℕ). n + getD hs b 0) (sym (l .loop .inv .3)) in (
+    let next : sumOf (take (suc b) hs) ≡ l .loop .so-far + getD hs b 0 = sum-take hs b (omega arith) ∙ ap (λ (n : ℕ). n + getD hs b 0) (sym (l .loop .inv .3)) in (
       omega arith,
       simp length-set (omega arith),
       omega (arith, c .before .shared-slice-known2 .given b),
       rw (add-one) (sym next),
       kept-or-stored (λ k x. x ≡ sumAt hs k) nan (l .loop .sums) b _ (omega arith) (l .loop .inv .4)
-          (sum-at hs b (l .loop .sum + getD hs b 0) _ _ (sym next)
+          (sum-at hs b (l .loop .so-far + getD hs b 0) _ _ (sym next)
           (m .max-f64 .ensures ∙ ap (λ (n : ℕ). maxFloat (ofCount n) one64) (m .before .before .sum-of .ensures .0)) (c .part .ensures)),
     )
 
@@ -73,8 +73,8 @@ write-sums-spec =
     loop-holds
     (λ c. search needs)
     (λ c. search needs)
-    cast-sum
-    add-sum
+    cast-so-far
+    add-so-far
     part-requires
     (λ c. search needs)
     (λ c. search needs)

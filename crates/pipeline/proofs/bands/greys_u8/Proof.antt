@@ -8,6 +8,7 @@ use Rattle.spec.specs.Grey.{values}
 use Rattle.spec.specs.Pixels.{pixels}
 use Rattle.spec.specs.Stretch.{stretch}
 use Rattle.spec.specs.Value.{full8}
+use Rattle.autoscale.specs.Painted.{opens}
 use Rattle.autoscale.proofs.Painted.{values-outside}
 use Rattle.pipeline.proofs.Accepted.{ready-lengths}
 use Rattle.pipeline.proofs.Apart.{clahe-only}
@@ -15,10 +16,11 @@ use Rattle.pipeline.proofs.bands.greys_u8.Statement.{statement}
 use Rattle.pipeline.proofs.bands.greys_u8.Tie as tie
 
 tiled-greys-u8-requires : tie.Need-tiled-greys-u8-requires
+unfolding opens
 tiled-greys-u8-requires c κs =
     let at-then = c .before .before in
     let p = at-then .before .before .before .before .before .before .pre in
-    (record { band = p .0 .band; out-length = p .0 .out-length; work-length = λ _. p .0 .work-length (sym (at-then .before .is-clahe .ensures) ∙ at-then .if1 .taken) }, p .1)
+    (record { band = p .0 .band; out-length = p .0 .out-length; work-length = λ _. p .0 .work-length (sym (at-then .before .is-clahe .ensures) ∙ at-then .if1 .taken) }, search (p .1))
 
 returns : tie.Need-returns
 returns c =
@@ -33,7 +35,8 @@ returns c =
     )
 
 plain-greys-u8-requires : tie.Need-plain-greys-u8-requires
-plain-greys-u8-requires c κs = let p = c .before .before .before .before .before .before .before .pre in (ready-lengths (p .0) .0, (ready-lengths (p .0) .1, p .1))
+unfolding opens
+plain-greys-u8-requires c κs = let p = c .before .before .before .before .before .before .before .pre in (ready-lengths (p .0) .0, (ready-lengths (p .0) .1, search (p .1)))
 
 returns-2 : tie.Need-returns-2
 returns-2 c =

@@ -7,6 +7,7 @@ use Rattle.types.specs.declared.AutoscaleStrategy.{AutoscaleStrategy}
 use Rattle.spec.specs.Grey.{values}
 use Rattle.spec.specs.Pixels.{pixels}
 use Rattle.spec.specs.Value.{full16}
+use Rattle.autoscale.specs.Painted.{opens}
 use Rattle.autoscale.proofs.Painted.{values-outside}
 use Rattle.pipeline.proofs.Accepted.{ready-lengths}
 use Rattle.pipeline.proofs.Apart.{clahe-only}
@@ -14,10 +15,11 @@ use Rattle.pipeline.proofs.bands.values_u16.Statement.{statement}
 use Rattle.pipeline.proofs.bands.values_u16.Tie as tie
 
 tiled-values-u16-requires : tie.Need-tiled-values-u16-requires
+unfolding opens
 tiled-values-u16-requires c κs =
     let at-then = c .before .before in
     let p = at-then .before .before .before .before .before .before .pre in
-    (record { band = p .0 .band; out-length = p .0 .out-length; work-length = λ _. p .0 .work-length (sym (at-then .before .is-clahe .ensures) ∙ at-then .if1 .taken) }, p .1)
+    (record { band = p .0 .band; out-length = p .0 .out-length; work-length = λ _. p .0 .work-length (sym (at-then .before .is-clahe .ensures) ∙ at-then .if1 .taken) }, search (p .1))
 
 returns : tie.Need-returns
 returns c =
@@ -32,7 +34,8 @@ returns c =
     )
 
 plain-values-u16-requires : tie.Need-plain-values-u16-requires
-plain-values-u16-requires c κs = let p = c .before .before .before .before .before .before .before .pre in (ready-lengths (p .0) .0, (ready-lengths (p .0) .1, p .1))
+unfolding opens
+plain-values-u16-requires c κs = let p = c .before .before .before .before .before .before .before .pre in (ready-lengths (p .0) .0, (ready-lengths (p .0) .1, search (p .1)))
 
 returns-2 : tie.Need-returns-2
 returns-2 c =

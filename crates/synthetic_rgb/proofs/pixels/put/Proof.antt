@@ -1,4 +1,5 @@
 -- `synthetic_rgb::pixels::put` meets its contract: three stores. Assumes nothing.
+use mathlib.Core.Path.{refl}
 use native.Mathlib.Omega.{arith}
 use lib.ListN.{length-set}
 use borrow.Author.Needs.{needs}
@@ -14,9 +15,12 @@ slice-write-rgb-data-3 c = simp length-set (omega arith)
 same-length : tie.Need-same-length
 same-length c = simp length-set
 
+returns : tie.Need-returns
+returns c = refl
+
 pub put-spec : {M : Type 1} → statement M
 put-spec =
     tie.close
     (tie.spec
     (λ c. search needs) (λ c. search needs) slice-write-rgb-data-2 (λ c. search needs) slice-write-rgb-data-3
-    same-length (λ c. search needs))
+    same-length returns)
