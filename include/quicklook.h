@@ -1,11 +1,11 @@
 /* quicklook.h: the radar quicklook engine's calls for C.
  *
  * Every call answers a number of the table below and does nothing else with a refused input: after any answer but 0 all lent memory
- * is as it was. A list is a pointer and its number of elements. A caller has three duties: the lists of one call do not overlap; each
- * pointer has its type's natural alignment (an empty list too has a pointer that is not null); and the calling thread has the
- * floating-point environment that a program starts with, fesetenv(FE_DFL_ENV) of fenv.h: to the nearest, no flushing of subnormal numbers
- * to zero (what -ffast-math switches on in some programs), no traps. Another rounding changes greys, flushing changes statistics, and a trap
- * may end the program, even by a NaN under a 0 mark.
+ * is as it was. A list is a pointer and its number of elements. A caller has three duties: a list that a call writes overlaps no other list
+ * of that call (lists that are only read may overlap, or be one and the same); each pointer has its type's natural alignment (an empty list
+ * too has a pointer that is not null); and the calling thread has the floating-point environment that a program starts with,
+ * fesetenv(FE_DFL_ENV) of fenv.h: to the nearest, no flushing of subnormal numbers to zero (what -ffast-math switches on in some programs),
+ * no traps. Another rounding changes greys, flushing changes statistics, and a trap may end the program.
  *
  *   0    done: the outputs are fully written
  *   1    rows or cols above 4,096
@@ -16,7 +16,8 @@
  *   6    the chosen gamma is not 1.0
  *   255  a strategy or a mode that names nothing
  *
- * The smallest number that applies is answered. n is rows * cols, row by row. Marks are bytes: 1 valid, 0 invalid.
+ * 255 comes before all others; of 1 to 6 the smallest that applies is answered. n is rows * cols, row by row. Marks are bytes: 1 valid, 0
+ * invalid.
  */
 #ifndef QUICKLOOK_H
 #define QUICKLOOK_H

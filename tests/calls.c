@@ -88,6 +88,8 @@ static void window(void) {
     blank = 9;
     memset(floats, 0x55, sizeof floats);
     check(quicklook_window(7, 1, 2, db, 2, mask, 2, &blank, floats) == 255 && blank == 9 && all(floats, sizeof floats, 0x55), "a strategy that names nothing");
+    check(quicklook_window(7, 4097, 2, db, 1, mask, 2, &blank, floats) == 255 && blank == 9 && all(floats, sizeof floats, 0x55),
+          "a strategy that names nothing, before a side above 4,096");
 }
 
 static void grey(void) {
@@ -125,9 +127,11 @@ static void picture(void) {
     double *work = lent(3, 8, 0x55);
     check(quicklook_picture(QUICKLOOK_DEFAULT, QUICKLOOK_MODE_ENHANCED, 1, 2, db, 2, mask, 2, db, 2, mask, 2, grey1, 2, grey2, 2, rgb, 6, work, 3) == 0 &&
               !memcmp(grey1, "\0\377", 2) && !memcmp(grey2, "\0\377", 2) && !memcmp(rgb, "\0\0\0\377\377\75", 6) && all(work, 24, 0x55),
-          "picture of 0, 10");
+          "picture of 0, 10, one list lent as both bands");
     memset(grey1, 9, 2), memset(grey2, 9, 2), memset(rgb, 9, 6);
     check(quicklook_picture(QUICKLOOK_DEFAULT, 4, 1, 2, db, 2, mask, 2, db, 2, mask, 2, grey1, 2, grey2, 2, rgb, 6, work, 3) == 255 && all(rgb, 6, 9), "a mode that names nothing");
+    check(quicklook_picture(QUICKLOOK_DEFAULT, 4, 4097, 2, db, 1, mask, 2, db, 2, mask, 2, grey1, 2, grey2, 2, rgb, 5, work, 3) == 255 && all(rgb, 6, 9) && all(grey1, 2, 9),
+          "a mode that names nothing, before a side above 4,096");
     check(quicklook_picture(QUICKLOOK_DEFAULT, 0, 1, 2, db, 2, mask, 2, db, 2, mask, 2, grey1, 2, grey2, 2, rgb, 5, work, 3) == 2 && all(rgb, 6, 9) && all(grey1, 2, 9),
           "colours that are too short");
     check(quicklook_picture(QUICKLOOK_STANDARD, 0, 1, 2, db, 2, mask, 2, db, 2, mask, 2, grey1, 2, grey2, 2, rgb, 6, work, 3) == 6 && all(rgb, 6, 9) && all(grey2, 2, 9),

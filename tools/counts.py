@@ -1,7 +1,7 @@
 #!/usr/bin/env python3
 """counts.py [ROOT]: what a reader has to carry, counted over crates/: lines (without the tables of numbers), trivial answers, parameters, names,
-what is public. A report, but for two things that end it with 1: a function of more than eight parameters that is not the picture call, and a
-`pub fn` that no other crate calls."""
+what is public. A report, but for two things that end it with 1: a function of more than eight parameters that is not the picture call or a run of it
+in runs (one run holds its eight lists, two runs hold two scenes), and a `pub fn` that no other crate calls."""
 import glob
 import os
 import re
@@ -87,5 +87,6 @@ for crate, texts in code.items():
 print(f'more than eight parameters: {len(many)}: {", ".join(many)}')
 print(f'pub fn: {public}, without a caller outside their crate {len(unused)}: {", ".join(unused)}')
 print(f'contracts that begin with a definition: {clauses}, of another name than the function {len(differ)}: {", ".join(differ)}')
-allowed = {'pipeline::synthetic_rgb_picture 12', 'quicklook::quicklook_picture 12'}
+allowed = {'pipeline::synthetic_rgb_picture 12', 'quicklook::quicklook_picture 12', 'runs::altered_picture 16', 'runs::ranked_picture 11',
+           'runs::reordered_picture 18'}
 sys.exit(bool(unused or set(many) - allowed))

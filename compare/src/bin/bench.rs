@@ -1,4 +1,6 @@
 //! bench [SIDE ..]: the Rust originals and the archive on the same scenes in the same process, one thread, medians, as a Markdown table.
+//! bench marks [alone] [SIDE ..]: what is painted pixel by pixel, on three kinds of marks: all valid, nine in ten valid in runs, one in two at
+//! random; alone: without the Rust and in processor time, to hold two archives against each other on a busy machine.
 //! The Rust's inputs (arrays and masks of bool) are made beforehand, outside its times; its outputs are allocated by it, inside them.
 
 use compare::{scene, strategy_of};
@@ -11,7 +13,12 @@ use std::hint::black_box;
 use std::time::Instant;
 
 /// The median of several runs, in milliseconds; the first run is not counted.
-fn median(runs: usize, mut work: impl FnMut()) -> f64 {
+fn median(runs: usize, work: impl FnMut()) -> f64 {
+    times(runs, work)[runs / 2]
+}
+
+/// The times of several runs, in milliseconds, the least first; the first run is not counted.
+fn times(runs: usize, mut work: impl FnMut()) -> Vec<f64> {
     work();
     let mut times: Vec<f64> = (0..runs)
         .map(|_| {
@@ -21,7 +28,7 @@ fn median(runs: usize, mut work: impl FnMut()) -> f64 {
         })
         .collect();
     times.sort_by(f64::total_cmp);
-    times[runs / 2]
+    times
 }
 
 fn row(what: &str, side: usize, rust: f64, ours: f64) {
@@ -119,6 +126,92 @@ fn bench(side: usize) {
     }
 }
 
+/// n marks, nine in ten of them 1, in runs of 180 to 540 pixels with gaps of a ninth of that.
+fn marks_in_runs(rng: &mut Rng, n: usize) -> Vec<u8> {
+    let mut marks = Vec::with_capacity(n + 600);
+    while marks.len() < n {
+        let gap = 20 + rng.below(41);
+        marks.resize(marks.len() + 9 * gap, 1);
+        marks.resize(marks.len() + gap, 0);
+    }
+    marks.truncate(n);
+    marks
+}
+
+/// The processor time of this thread so far, in milliseconds, as Linux counts it at its ticks.
+fn processor_ms() -> f64 {
+    let stat = std::fs::read_to_string("/proc/thread-self/schedstat").unwrap();
+    stat.split_whitespace().next().unwrap().parse::<f64>().unwrap() / 1e6
+}
+
+/// One row: the Rust's median of three runs, the archive's median and least of nine.
+fn marks_row(alone: bool, what: &str, kind: &str, theirs: impl FnMut(), mut ours: impl FnMut()) {
+    if alone {
+        ours();
+        let mut ours: Vec<f64> = (0..9)
+            .map(|_| {
+                let start = processor_ms();
+                ours();
+                processor_ms() - start
+            })
+            .collect();
+        ours.sort_by(f64::total_cmp);
+        println!("| {what} | {kind} | | {:.1} | {:.1} | |", ours[4], ours[0]);
+        return;
+    }
+    let ours = times(9, ours);
+    let theirs = median(3, theirs);
+    println!("| {what} | {kind} | {theirs:.1} | {:.1} | {:.1} | {:.2} |", ours[4], ours[0], ours[4] / theirs);
+}
+
+fn bench_marks(side: usize, alone: bool) {
+    let n = side * side;
+    let mut rng = Rng::new(7);
+    let db = [scene::sea(&mut rng, side, side).0, scene::sea(&mut rng, side, side).0];
+    let (mut grey1, mut grey2, mut rgb) = (vec![0u8; n], vec![0u8; n], vec![0u8; 3 * n]);
+    let mut grey16 = vec![0u16; n];
+    let mut work = vec![0f64; 16_384];
+    for kind in ["all valid", "runs", "random"] {
+        let marks = [0, 1].map(|_| match kind {
+            "all valid" => vec![1u8; n],
+            "runs" => marks_in_runs(&mut rng, n),
+            _ => (0..n).map(|_| rng.once_in(2) as u8).collect(),
+        });
+        let band = |k: usize| Band { db: &db[k], valid_mask: &marks[k] };
+        let rust = [0, 1].map(|k: usize| RustBand {
+            db: Array2::from_shape_vec((side, side), db[k].clone()).unwrap(),
+            mask: marks[k].iter().map(|&m| m == 1).collect(),
+        });
+        let strategy = AutoscaleStrategy::Default;
+        marks_row(
+            alone,
+            "grey 8 bits, Default",
+            kind,
+            || drop(black_box(rust_grey(strategy, BitDepth::U8, &rust[0]))),
+            || engine::grey_u8(strategy, side, side, band(0), black_box(&mut grey1), &mut work).unwrap(),
+        );
+        marks_row(
+            alone,
+            "grey 16 bits, Default",
+            kind,
+            || drop(black_box(rust_grey(strategy, BitDepth::U16, &rust[0]))),
+            || engine::grey_u16(strategy, side, side, band(0), black_box(&mut grey16), &mut work).unwrap(),
+        );
+        for strategy in [AutoscaleStrategy::Default, AutoscaleStrategy::Tamed] {
+            marks_row(
+                alone,
+                &format!("picture, {strategy:?}"),
+                kind,
+                || drop(black_box(rust_picture(strategy, &rust))),
+                || {
+                    let out = PictureOut { grey1: &mut grey1, grey2: &mut grey2, rgb: &mut rgb };
+                    engine::picture(strategy, SyntheticRgbMode::Default, side, side, band(0), band(1), black_box(out), &mut work).unwrap()
+                },
+            );
+        }
+    }
+}
+
 /// The most memory this process has had, in MiB.
 fn peak_mib() -> Option<f64> {
     let status = std::fs::read_to_string("/proc/self/status").ok()?;
@@ -128,6 +221,13 @@ fn peak_mib() -> Option<f64> {
 
 fn main() {
     let sides: Vec<usize> = std::env::args().skip(1).filter_map(|a| a.parse().ok()).collect();
+    if std::env::args().nth(1).is_some_and(|a| a == "marks") {
+        let sides = if sides.is_empty() { vec![4_096] } else { sides };
+        println!("| call | marks | Rust, ms | archive, ms | least | ratio |\n|---|---|---|---|---|---|");
+        let alone = std::env::args().any(|a| a == "alone");
+        sides.into_iter().for_each(|side| bench_marks(side, alone));
+        return;
+    }
     let sides = if sides.is_empty() { vec![512, 1_024, 2_048, 4_096] } else { sides };
     println!("| call | side | Rust, ms | archive, ms | ratio |\n|---|---|---|---|---|");
     for side in sides {
