@@ -1,7 +1,9 @@
 """The demo and what stands in its folder."""
+import fcntl
 import hashlib
 import os
 import subprocess
+import time
 
 from faults.common import PROGRAM, Case
 
@@ -92,6 +94,21 @@ class Demo(Case):
                 self.assertIn(process.wait(timeout=60), (0, 64, 74))
             self.done(*self.demo())
 
+    def test_another_ends_first(self):
+        """Files that another demo names while this one waits for the folder are in this one's list, or go."""
+        self.done("demo", "other", "--side", "64")
+        process = self.slowly(["demo", "d", "--side", "9"], "fsync:14", 1)
+        folder = os.open(self.folder / "d", os.O_RDONLY)
+        fcntl.flock(folder, fcntl.LOCK_EX)
+        time.sleep(4)
+        for name in os.listdir(self.folder / "other"):
+            os.replace(self.folder / "other" / name, self.folder / "d" / name)
+        os.close(folder)
+        status, told = self.ends(process)
+        self.assertEqual(status, 0, told)
+        self.assertEqual(len(os.listdir(self.folder / "d")), 15)
+        self.done(*self.demo())
+
     def test_links_are_not_followed(self):
         """Not even by force."""
         self.done(*self.demo())
@@ -124,8 +141,8 @@ class Demo(Case):
         self.fails(74, "pipe", "demo", "pipe", "--side", "32")
 
     def test_nothing_is_left_of_a_failed_one(self):
-        for fault in (("write", 3, "ENOSPC"), ("fsync", 9, "EIO"), ("exchange", 7, "EPERM"), ("open", 13, "EMFILE")):
-            self.fails(74, "", "demo", "new/d", "--side", "32", fault=fault)
+        for fault, path in (("write", 3, "ENOSPC"), ""), (("fsync", 9, "EIO"), ""), (("exchange", 7, "EPERM"), ""), (("open", 5, "EMFILE"), ".part"):
+            self.fails(74, "", "demo", "new/d", "--side", "32", fault=fault, environment={"FAULT_PATH": path})
         self.done(*self.demo())
         for place in (1, 8, 18):
             self.fails(74, "", *self.demo(), fault=("exchange", place, "EPERM"))

@@ -17,10 +17,9 @@ use std::os::unix::ffi::OsStrExt;
 use std::path::{Path, PathBuf};
 use std::time::{Duration, Instant};
 
-/// Gives whole outputs their names.
-pub fn name_all(outputs: Vec<Part>) -> Outcome<()> {
+/// Gives whole outputs their names, in folders that the caller has locked.
+pub fn name_all(outputs: Vec<Part>, _locks: &Locks) -> Outcome<()> {
     let folders = folders(&outputs);
-    let _locks = lock(&folders);
     let mut named = Vec::with_capacity(outputs.len());
     signals::begin_naming();
     let outcome = give_names(outputs, &mut named).and_then(|()| sync(&folders));
@@ -196,29 +195,36 @@ impl Named {
 }
 
 /// The folders of outputs, by their own numbers.
-fn folders(outputs: &[Part]) -> BTreeMap<Id, PathBuf> {
+pub fn folders(outputs: &[Part]) -> BTreeMap<Id, PathBuf> {
     outputs.iter().map(|part| (part.target.folder_id, part.target.folder.clone())).collect()
 }
 
-/// Runs that name outputs in one folder do so one after the other, so that the outputs of one run stay together. A folder that cannot be
-/// locked, or not within some seconds, is done without.
-fn lock(folders: &BTreeMap<Id, PathBuf>) -> Vec<File> {
-    const TOLD_AFTER: Duration = Duration::from_secs(1);
-    const LONGEST: Duration = Duration::from_secs(20);
-    let begun = Instant::now();
-    let mut is_told = false;
-    let mut locks = Vec::new();
-    for folder in folders.values() {
-        let Ok(file) = parts::open_folder(folder) else { continue };
-        parts::take_within(&file, LONGEST.saturating_sub(begun.elapsed()), || {
-            if !is_told && begun.elapsed() > TOLD_AFTER {
-                note(&format!("another program has a lock on {}; it is waited for", folder.display()));
-                is_told = true;
-            }
-        });
-        locks.push(file);
+/// Folders in which no other run names outputs, until this goes.
+pub struct Locks {
+    _files: Vec<File>,
+}
+
+impl Locks {
+    /// Runs that name outputs in one folder do so one after the other, so that the outputs of one run stay together. A folder that cannot be
+    /// locked, or not within some seconds, is done without.
+    pub fn of<'a>(folders: impl IntoIterator<Item = &'a Path>) -> Locks {
+        const TOLD_AFTER: Duration = Duration::from_secs(1);
+        const LONGEST: Duration = Duration::from_secs(20);
+        let begun = Instant::now();
+        let mut is_told = false;
+        let mut files = Vec::new();
+        for folder in folders {
+            let Ok(file) = parts::open_folder(folder) else { continue };
+            parts::take_within(&file, LONGEST.saturating_sub(begun.elapsed()), || {
+                if !is_told && begun.elapsed() > TOLD_AFTER {
+                    note(&format!("another program has a lock on {}; it is waited for", folder.display()));
+                    is_told = true;
+                }
+            });
+            files.push(file);
+        }
+        Locks { _files: files }
     }
-    locks
 }
 
 /// The names too are to be on the disk.

@@ -2,7 +2,7 @@
 //! disk do they take their names (naming.rs). A part file is held by a lock while its process lives: one that nobody holds was left by a
 //! process that was killed, and the next run for the same output removes it.
 
-use crate::naming;
+use crate::naming::{self, Locks};
 use crate::origin::checksum;
 use crate::outputs::Target;
 use crate::standing::Fleeting;
@@ -132,11 +132,32 @@ fn sweep(target: &Target) {
     }
 }
 
-/// An output that is whole under its part file's name.
+/// An output under its part file's name.
 pub struct Part {
     pub target: Target,
     pub file: File,
     pub standing: Fleeting,
+}
+
+impl Part {
+    /// An empty one.
+    pub fn begin(path: &Path, force: bool) -> Outcome<Part> {
+        let target = Target::of(path, force)?;
+        sweep(&target);
+        let (file, standing) = create(&target).map_err(|e| Trouble::file(path, e))?;
+        Ok(Part { target, file, standing })
+    }
+
+    /// Writes it through a buffer, and waits until it is on the disk.
+    pub fn fill(self, fill: impl FnOnce(&mut BufWriter<&File>) -> Outcome<()>) -> Outcome<Parts> {
+        let bad = |e: io::Error| Trouble::file(&self.target.shown, e);
+        let mut out = BufWriter::with_capacity(1 << 20, &self.file);
+        fill(&mut out)?;
+        out.flush().map_err(bad)?;
+        drop(out);
+        self.file.sync_all().map_err(bad)?;
+        Ok(Parts(vec![self]))
+    }
 }
 
 /// Outputs that are whole and not named yet. Dropped before `finish`, they go.
@@ -157,18 +178,9 @@ impl Parts {
         trouble.map_or(Ok(all), Err)
     }
 
-    /// Writes one file through a buffer, and waits until it is on the disk.
+    /// Writes one file.
     pub fn fill(path: &Path, force: bool, fill: impl FnOnce(&mut BufWriter<&File>) -> Outcome<()>) -> Outcome<Parts> {
-        let bad = |e: io::Error| Trouble::file(path, e);
-        let target = Target::of(path, force)?;
-        sweep(&target);
-        let (file, standing) = create(&target).map_err(bad)?;
-        let mut out = BufWriter::with_capacity(1 << 20, &file);
-        fill(&mut out)?;
-        out.flush().map_err(bad)?;
-        drop(out);
-        file.sync_all().map_err(bad)?;
-        Ok(Parts(vec![Part { target, file, standing }]))
+        Part::begin(path, force)?.fill(fill)
     }
 
     /// The outputs, as the user named them.
@@ -182,8 +194,19 @@ impl Parts {
         self.0.iter().map(|part| Ok((name(part), checksum(&part.standing.path)?))).collect()
     }
 
+    /// Locks their folders.
+    pub fn lock(&self) -> Locks {
+        Locks::of(naming::folders(&self.0).values().map(PathBuf::as_path))
+    }
+
     /// Gives the files their names: all of them, or none.
     pub fn finish(self) -> Outcome<()> {
-        naming::name_all(self.0)
+        let locks = self.lock();
+        self.finish_locked(&locks)
+    }
+
+    /// The same, for one who has locked their folders.
+    pub fn finish_locked(self, locks: &Locks) -> Outcome<()> {
+        naming::name_all(self.0, locks)
     }
 }

@@ -4,6 +4,7 @@ use crate::arguments::Form;
 use crate::elements::Kind;
 use crate::gdal::Process;
 use crate::memory;
+use crate::naming::Locks;
 use crate::npy;
 use crate::origin::Items;
 use crate::outputs;
@@ -101,8 +102,14 @@ pub fn write(path: &Path, sheet: &Sheet) -> Outcome<Parts> {
     }
 }
 
-/// Names the outputs. What stands beside them from before, and would be read with them, is told.
+/// Names the outputs.
 pub fn finish(parts: Parts) -> Outcome<()> {
+    let locks = parts.lock();
+    finish_locked(parts, &locks)
+}
+
+/// Names the outputs. What stands beside them from before, and would be read with them, is told.
+pub fn finish_locked(parts: Parts, locks: &Locks) -> Outcome<()> {
     let mut strangers = Vec::new();
     for path in parts.paths() {
         let world = match format_of(path) {
@@ -115,7 +122,7 @@ pub fn finish(parts: Parts) -> Outcome<()> {
         let beside = by_suffix.into_iter().chain(by_ending).filter(|beside| beside.exists() && !parts.paths().any(|other| other == beside));
         strangers.extend(beside.map(|beside| (beside, path.to_path_buf())));
     }
-    parts.finish()?;
+    parts.finish_locked(locks)?;
     for (beside, path) in strangers {
         note(&format!("{} is not of this result, and programs that read {} read it too", beside.display(), path.display()));
     }
