@@ -159,22 +159,6 @@ fn paint_blocks_u8(db: &[f64], valid_mask: &[u8], window: WindowFloats, out: &mu
     }
 }
 
-// The least and the greatest of bytes, 65535 and 0 if there is none.
-fn ends_of_bytes(bytes: &[u8]) -> Ends
-    ensures { λ r. ⌜ (r .lo ≡ lowest 65535 (now (bytes .entry))) × (r .hi ≡ highest 0 (now (bytes .entry))) ⌝ }
-{
-    let mut lo: u16 = 65535;
-    let mut hi: u16 = 0;
-    let mut i = 0;
-    while i < bytes.len() {
-        let x = bytes[i] as u16;
-        lo = stretch::min_u16(lo, x);
-        hi = stretch::max_u16(hi, x);
-        i += 1;
-    }
-    Ends { lo, hi }
-}
-
 // A band at 8 bits, with the least and the greatest of the bytes.
 pub(crate) fn paint_u8(db: &[f64], valid_mask: &[u8], window: WindowFloats, out: &mut [u8]) -> Ends
     requires { ⌜ length (now db) ≡ length (now out) ⌝ ∗ ⌜ length (now «valid_mask») ≡ length (now out) ⌝ }
@@ -182,7 +166,7 @@ pub(crate) fn paint_u8(db: &[f64], valid_mask: &[u8], window: WindowFloats, out:
     ensures { λ r. ⌜ (r .lo ≡ lowest 65535 (now (out .exit))) × (r .hi ≡ highest 0 (now (out .exit))) ⌝ }
 {
     paint_blocks_u8(db, valid_mask, window, out);
-    ends_of_bytes(out)
+    stretch::ends_of_bytes(out)
 }
 
 // Pixels that are all valid, at 16 bits.

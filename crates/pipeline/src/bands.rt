@@ -4,7 +4,6 @@ ghost use mathlib.Core.Bool.{true};
 ghost use lib.ListN.{length};
 ghost use Rattle.types.specs.declared.AutoscaleStrategy.the-variants.{Clahe};
 ghost use Rattle.spec.specs.Grey.{values};
-ghost use Rattle.spec.specs.Lists.{lowest, highest};
 ghost use Rattle.spec.specs.Picture.{pictureGreys};
 ghost use Rattle.spec.specs.Pixels.{pixels};
 ghost use Rattle.spec.specs.Strategies.{isClahe};
@@ -14,33 +13,16 @@ ghost use Rattle.autoscale.specs.Painted.{opens};
 ghost use Rattle.pipeline.specs.Ready.{Ready};
 ghost use Rattle.pipeline.specs.Work.{Kept};
 use crate::strategies;
-use stretch::Ends;
 use types::AutoscaleStrategy;
 use types::Sides;
 use types::WindowAnswer;
 use types::WindowFloats;
 
-// The least and the greatest of some bytes, 65535 and 0 of none.
-fn byte_ends(bytes: &[u8]) -> Ends
-    ensures { λ r. ⌜ (r .lo ≡ lowest 65535 (now (bytes .entry))) × (r .hi ≡ highest 0 (now (bytes .entry))) ⌝ }
-{
-    let mut lo: u16 = 65535;
-    let mut hi: u16 = 0;
-    let mut i: usize = 0;
-    while i < bytes.len() {
-        let x = bytes[i] as u16;
-        lo = stretch::min_u16(lo, x);
-        hi = stretch::max_u16(hi, x);
-        i += 1;
-    }
-    Ends { lo, hi }
-}
-
 // Bytes stretched in place between the least and the greatest of them.
 fn scale_bytes(bytes: &mut [u8])
     ensures { λ _. ⌜ now (bytes .exit) ≡ Stretch.stretch (now (bytes .entry)) ⌝ }
 {
-    let ends = byte_ends(bytes);
+    let ends = stretch::ends_of_bytes(bytes);
     let lo = ends.lo;
     let hi = ends.hi;
     stretch::stretch_bytes(bytes, lo, hi);

@@ -29,13 +29,13 @@ fn stretch_byte(x: u16, lo: u16, hi: u16) -> u8
     0
 }
 
-pub fn min_u16(a: u16, b: u16) -> u16
+fn min_u16(a: u16, b: u16) -> u16
     ensures { λ r. ⌜ r ≡ min a b ⌝ }
 {
     if b < a { b } else { a }
 }
 
-pub fn max_u16(a: u16, b: u16) -> u16
+fn max_u16(a: u16, b: u16) -> u16
     ensures { λ r. ⌜ r ≡ max a b ⌝ }
 {
     if a < b { b } else { a }
@@ -58,6 +58,22 @@ fn ends_of(data: &[u16]) -> Ends
         let x = data[i];
         lo = min_u16(lo, x);
         hi = max_u16(hi, x);
+        i += 1;
+    }
+    Ends { lo, hi }
+}
+
+// Those of bytes.
+pub fn ends_of_bytes(bytes: &[u8]) -> Ends
+    ensures { λ r. ⌜ (r .lo ≡ lowest 65535 (now (bytes .entry))) × (r .hi ≡ highest 0 (now (bytes .entry))) ⌝ }
+{
+    let mut lo: u16 = 65535;
+    let mut hi: u16 = 0;
+    let mut i = 0;
+    while i < bytes.len() {
+        let byte = bytes[i] as u16;
+        lo = min_u16(lo, byte);
+        hi = max_u16(hi, byte);
         i += 1;
     }
     Ends { lo, hi }

@@ -8,7 +8,7 @@ use Rattle.pipeline.proofs.bands.scale_bytes.Tie as tie
 returns : tie.Need-returns
 returns c =
     let s = c .before .before in
-    let e = s .before .before .byte-ends in
+    let e = s .before .before .ends-of-bytes in
     let a = s .before .before .before .before .before .args in
     stretch-by (e .result .lo) (e .result .hi) (now (a .bytes)) (s .stretch-bytes .last .0) (e .ensures .0) (e .ensures .1) (s .stretch-bytes .ensures)
 
