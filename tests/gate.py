@@ -16,6 +16,7 @@ TESTS = ["calls", "faults", "compare"]
 # The steps counted once each, with rt's ten and the edits' seven beside them.
 ONCE = ["packages", "lint", "archive", "crates", "host", *TESTS]
 ALL = 10 + 7 + len(ONCE)
+SIGNALS = (signal.SIGTERM, signal.SIGINT, signal.SIGHUP)
 
 # A stand-in: its name and first word make the step; BAD names steps that fail, CRASH some that are cut off after their count, LIES some whose
 # count has no failure though they fail, SLOW one that hangs.
@@ -44,6 +45,12 @@ exit $bad
 """
 
 
+def hear():
+    """The signals end the gate, though whoever runs this may ignore some (nohup): a shell cannot trap what it was begun to ignore."""
+    for number in SIGNALS:
+        signal.signal(number, signal.SIG_DFL)
+
+
 class Gate(unittest.TestCase):
     def setUp(self):
         folder = tempfile.TemporaryDirectory()
@@ -60,7 +67,7 @@ class Gate(unittest.TestCase):
     def start(self, **words):
         env = dict(os.environ, PATH=f"{self.top}/bin:/usr/bin:/bin", ORDER=str(self.top / "order"), BAD="", SLOW="", CRASH="", LIES="", NO_ORIGINALS="", NO_LIST="", NO_NEEDS="", NOTHING="")
         env.update(words)
-        return subprocess.Popen([self.top / ".ci" / "run"], env=env, stdout=subprocess.PIPE, stderr=subprocess.STDOUT, text=True)
+        return subprocess.Popen([self.top / ".ci" / "run"], env=env, stdout=subprocess.PIPE, stderr=subprocess.STDOUT, text=True, preexec_fn=hear)
 
     def ends(self, gate, passed, failed):
         said, _ = gate.communicate(timeout=50)
@@ -116,7 +123,7 @@ class Gate(unittest.TestCase):
         self.assertIn("gate: 1 skipped: compare, no originals", said)
 
     def test_ended_by_a_signal(self):
-        for number in (signal.SIGTERM, signal.SIGINT, signal.SIGHUP):
+        for number in SIGNALS:
             with self.subTest(signal=number):
                 (self.top / "order").unlink(missing_ok=True)
                 gate = self.start(SLOW="faults")
