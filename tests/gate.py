@@ -64,10 +64,10 @@ class Gate(unittest.TestCase):
         (self.top / ".ci").mkdir()
         shutil.copy(GATE, self.top / ".ci" / "run")
 
-    def start(self, **words):
-        env = dict(os.environ, PATH=f"{self.top}/bin:/usr/bin:/bin", ORDER=str(self.top / "order"), BAD="", SLOW="", CRASH="", LIES="", NO_ORIGINALS="", NO_LIST="", NO_NEEDS="", NOTHING="")
+    def start(self, stdout=subprocess.PIPE, **words):
+        env = dict(os.environ, PATH=f"{self.top}/bin:/usr/bin:/bin", ORDER=str(self.top / "order"), GATE_SECONDS="70", BAD="", SLOW="", CRASH="", LIES="", NO_ORIGINALS="", NO_LIST="", NO_NEEDS="", NOTHING="")
         env.update(words)
-        return subprocess.Popen([self.top / ".ci" / "run"], env=env, stdout=subprocess.PIPE, stderr=subprocess.STDOUT, text=True, preexec_fn=hear)
+        return subprocess.Popen([self.top / ".ci" / "run"], env=env, stdout=stdout, stderr=subprocess.STDOUT, text=True, preexec_fn=hear)
 
     def ends(self, gate, passed, failed):
         said, _ = gate.communicate(timeout=50)
@@ -145,6 +145,18 @@ class Gate(unittest.TestCase):
     def test_out_of_time(self):
         said = self.ends(self.start(SLOW="proofs", GATE_SECONDS="1"), 0, 2 + len(ONCE))
         self.assertIn("gate: out of time", said)
+
+    def test_killed(self):
+        """Nobody is signalled in place of a gate that is gone."""
+        with open(self.top / "said", "w+", encoding="utf-8") as said:
+            gate = self.start(stdout=said, SLOW="proofs", GATE_SECONDS="2")
+            while not (self.top / "order").exists():
+                time.sleep(0.02)
+            gate.kill()
+            gate.wait()
+            time.sleep(4)
+            said.seek(0)
+            self.assertNotIn("out of time", said.read())
 
 
 if __name__ == "__main__":
