@@ -49,16 +49,28 @@ enum quicklook_mode {
 /* The elements of `work` that Clahe needs; the other strategies take any length and leave it alone. */
 #define QUICKLOOK_CLAHE_WORK 16384
 
+/* The whole numbers and the floats of the statistics, and the bins of the curve. */
+#define QUICKLOOK_STATISTICS_WHOLE 3
+#define QUICKLOOK_STATISTICS_FLOATS 15
+#define QUICKLOOK_BINS 4096
+
 /* The longest list of the calls without sides. */
 #define QUICKLOOK_LONGEST 16777216
 
 /* Marks: valid_mask[i] is 1 where processed[i] is above the binary32 of bits 3727C5AC, else 0. Equal lengths, at most QUICKLOOK_LONGEST. Answers 0, 2. */
 uint8_t quicklook_marks(const float *processed, size_t processed_len, uint8_t *valid_mask, size_t valid_mask_len);
 
-/* Statistics of one band. db and valid_mask have n elements. *valid_count is the number of 1 marks; floats are min, max, mean, std, median,
- * p01, p02, p05, p10, p25, p75, p90, p95, p98, p99. Answers 0 to 4. */
+/* Statistics of one band. db and valid_mask have n elements. whole are the number of 1 marks, the bin of p05 and the bin of p95, bins of the
+ * curve that quicklook_histogram gives, from 0 on; floats are min, max, mean, std, median, p01, p02, p05, p10, p25, p75, p90, p95, p98, p99.
+ * Both bins are 0 where max - min is below 2^-52. Answers 0 to 4. */
 uint8_t quicklook_statistics(size_t rows, size_t cols, const double *db, size_t db_len, const uint8_t *valid_mask, size_t valid_mask_len,
-                             uint64_t *valid_count, double floats[15]);
+                             uint64_t whole[QUICKLOOK_STATISTICS_WHOLE], double floats[QUICKLOOK_STATISTICS_FLOATS]);
+
+/* The curve of one band: how many of its valid decibels stand in each of QUICKLOOK_BINS equal steps from the least to the greatest. The
+ * statistics are read off these counts, and they sum to the number of 1 marks. Where max - min is below 2^-52 all stand in bin 0.
+ * db and valid_mask have n elements, counts QUICKLOOK_BINS. Answers 0 to 4. */
+uint8_t quicklook_histogram(size_t rows, size_t cols, const double *db, size_t db_len, const uint8_t *valid_mask, size_t valid_mask_len,
+                            uint32_t *counts, size_t counts_len);
 
 /* The window of one band. *blank is 1 where no mark is 1, and then the floats are 0; else floats are low, high, range, gamma. Answers 0 to 4, 255. */
 uint8_t quicklook_window(uint8_t strategy, size_t rows, size_t cols, const double *db, size_t db_len, const uint8_t *valid_mask,

@@ -4,6 +4,7 @@ use mathlib.Core.Bool.{Bool, true, false, cond}
 use mathlib.Core.List.{List, [], _∷_}
 use Prim.Native.Nat.{ℕ, zero, suc}
 use native.Mathlib.Omega.{arith}
+use lib.ListN.{length}
 use lib.Ieee.{Float}
 use Rattle.types.specs.declared.AutoscaleStrategy.{AutoscaleStrategy}
 use Rattle.types.specs.declared.HistogramStats.{HistogramStats}
@@ -22,6 +23,8 @@ use Rattle.histogram.specs.declared.moments.FirstPass.{FirstPass}
 use Rattle.histogram.specs.declared.moments.FirstPass.the-variants.{Passed, BadDecibel}
 use Rattle.histogram.specs.Extremes.{extremesFrom}
 use Rattle.histogram.specs.Passes.{passed, firstPass, extremes}
+use Rattle.histogram.proofs.Counting.{none-count}
+use Rattle.histogram.proofs.Extremes.{extremes-count}
 use Rattle.histogram.proofs.Statistics.{pass-bad, pass-good}
 use Rattle.autoscale.specs.Bands.{readsMean, statsFor, bandStats, bandWindow, bandPictureWindow}
 use Rattle.autoscale.proofs.Unread.{window-for, picture-for}
@@ -50,6 +53,15 @@ stats-is strategy px = go (readsMean strategy)
         ≡ cond b (summary (momentsFrom noMoments (validOf px)) (validOf px)) (summary (extremesFrom noMoments (validOf px)) (validOf px))
     go true = refl
     go false = refl
+
+-- the count of that pass
+pub pass-count : (strategy : AutoscaleStrategy) (px : List Pixel) (m : Moments) → passFor strategy px ≡ Passed m → m .count ≡ length (validOf px)
+pass-count strategy px m e =
+    ap (λ (t : Moments). t .count) (sym (pass-good px (momentsFor strategy px) m (sym (pass-is strategy px) ∙ e) .1)) ∙ go (readsMean strategy)
+  where
+    go : (b : Bool) → cond b (momentsFrom noMoments (validOf px)) (extremesFrom noMoments (validOf px)) .count ≡ length (validOf px)
+    go true = none-count (validOf px)
+    go false = extremes-count (validOf px)
 
 pub stats-refused : (strategy : AutoscaleStrategy) (px : List Pixel) → passFor strategy px ≡ BadDecibel → StatisticsRefused 4 ≡ bandStats strategy px
 unfolding bandStats

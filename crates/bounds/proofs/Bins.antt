@@ -7,24 +7,39 @@ use native.Mathlib.Omega.{arith}
 use borrow.Author.Tests.{ltb-true, ltb-false}
 use lib.Dec.{ltb}
 use lib.ListN.{length, getD, take, length-map}
-use lib.Ieee.{Float}
+use lib.Ieee.{Float, binary64, div}
 use Rattle.types.specs.declared.BinRank.{BinRank}
-use Rattle.spec.specs.Bins.{binOf, histogram}
-use Rattle.spec.specs.Lists.{sumOf}
+use Rattle.types.specs.declared.Moments.{Moments}
+use Rattle.spec.specs.Floats.{one64}
+use Rattle.spec.specs.Lists.{counts, sumOf}
+use Rattle.spec.specs.Moments.{spanOf, isFlat}
+use Rattle.spec.specs.Bins.{binOf, histogram, binsOf}
 use Rattle.spec.specs.Percentile.{targetOf, findBin}
-use Rattle.lists.proofs.Counts.{counts-sum, counts-length}
+use Rattle.lists.proofs.Counts.{Below, counts-sum, counts-length}
 use Rattle.histogram.proofs.FindBin.{here, targetOf-most}
-use Rattle.histogram.proofs.Summaries.{bins-below}
+use Rattle.histogram.proofs.Summaries.{bins-below, zeros-below}
 
 -- ---- "The bins sum to the valid count."
 
-pub bins-sum : (least inv : Float) (vs : List Float) → sumOf (histogram (map (binOf least inv) vs)) ≡ length vs
-unfolding histogram
-bins-sum least inv vs = counts-sum 4096 (map (binOf least inv) vs) (bins-below least inv vs) ∙ length-map vs (binOf least inv)
+module _ (s : Moments) (vs : List Float) where
+  pub bins-sum : sumOf (binsOf s vs) ≡ length vs
+  unfolding binsOf histogram
+  bins-sum = pick (isFlat s)
+    where
+      all : (f : Float → ℕ) → Below 4096 (map f vs) → sumOf (counts 4096 (map f vs)) ≡ length vs
+      all f b = counts-sum 4096 (map f vs) b ∙ length-map vs f
 
-pub histogram-length : (bins : List ℕ) → length (histogram bins) ≡ 4096
-unfolding histogram
-histogram-length bins = counts-length 4096 bins
+      pick : (t : Bool) → sumOf (cond t (counts 4096 (map (λ v. 0) vs)) (counts 4096 (map (binOf (s .«min_db») (div binary64 one64 (spanOf s))) vs))) ≡ length vs
+      pick true = all (λ v. 0) (zeros-below vs)
+      pick false = all (binOf (s .«min_db») (div binary64 one64 (spanOf s))) (bins-below (s .«min_db») (div binary64 one64 (spanOf s)) vs)
+
+  pub bins-length : length (binsOf s vs) ≡ 4096
+  unfolding binsOf histogram
+  bins-length = pick (isFlat s)
+    where
+      pick : (t : Bool) → length (cond t (counts 4096 (map (λ v. 0) vs)) (counts 4096 (map (binOf (s .«min_db») (div binary64 one64 (spanOf s))) vs))) ≡ 4096
+      pick true = counts-length 4096 (map (λ v. 0) vs)
+      pick false = counts-length 4096 (map (binOf (s .«min_db») (div binary64 one64 (spanOf s))) vs)
 
 -- ---- "take the first bin whose running count exceeds the target"
 
@@ -71,7 +86,5 @@ findBin-first t hist g =
     }
 
 -- for any fraction of the values that the bins hold
-pub targetOf-first : (p least inv : Float) (vs : List Float) → 0 < length vs →
-    First (targetOf p (length vs)) (histogram (map (binOf least inv) vs)) (findBin (targetOf p (length vs)) 0 0 (histogram (map (binOf least inv) vs)))
-targetOf-first p least inv vs h =
-    findBin-first (targetOf p (length vs)) (histogram (map (binOf least inv) vs)) (omega (arith, targetOf-most p (length vs), bins-sum least inv vs))
+pub targetOf-first : (p : Float) (s : Moments) (vs : List Float) → 0 < length vs → First (targetOf p (length vs)) (binsOf s vs) (findBin (targetOf p (length vs)) 0 0 (binsOf s vs))
+targetOf-first p s vs h = findBin-first (targetOf p (length vs)) (binsOf s vs) (omega (arith, targetOf-most p (length vs), bins-sum s vs))

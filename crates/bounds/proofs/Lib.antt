@@ -4,3 +4,4 @@ pub mod Bins
 pub mod Statistics
 pub mod Windows
 pub mod Bounds
+pub mod Ticks

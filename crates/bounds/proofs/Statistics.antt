@@ -1,8 +1,8 @@
 -- Bounds on every field of the record for dB from -1000 to 1000, and that no percentile lies below the least. Assumes nothing.
 use mathlib.Core.Path.{_≡_, refl, sym, ap, _∙_, subst}
 use mathlib.Core.Logic.{inl, ⊎-elim}
-use mathlib.Core.Bool.{Bool, true, false, not, cond, _&&_}
-use mathlib.Core.List.{List, [], _∷_, map, zipWith}
+use mathlib.Core.Bool.{Bool, true, false, not, cond, _&&_, true≢false}
+use mathlib.Core.List.{List, [], _∷_, zipWith}
 use Prim.Native.Nat.{ℕ, zero, suc, _+_, _-_, _*_, _^_, _≤_, _<_, zero-le, suc-le-suc}
 use native.Mathlib.Nat.{le-trans, le-of-eq, lt-of-lt-of-le, lt-of-not-le, not-le-of-lt, mul-assoc, mul-comm, mul-left-comm, zero-mul, mul-zero, mul-pos, mul-le-mul, mul-le-mul-right, le-of-mul-le-mul-right, suc-mul, mul-mul-mul-comm, le-of-lt}
 use native.Mathlib.Omega.{arith}
@@ -21,13 +21,13 @@ use Rattle.types.specs.declared.BinRank.{BinRank}
 use Rattle.types.specs.declared.Percentile.{Percentile}
 use Rattle.types.specs.declared.HistogramStats.{HistogramStats}
 use Rattle.types.specs.declared.Moments.{Moments}
-use Rattle.spec.specs.Floats.{zero64, half64, one64, ofCount}
-use Rattle.spec.specs.Bins.{bins64, binOf, histogram}
+use Rattle.spec.specs.Floats.{zero64, half64, ofCount}
+use Rattle.spec.specs.Bins.{bins64, binsOf}
 use Rattle.spec.specs.Lists.{sumOf, any}
-use Rattle.spec.specs.Moments.{noMoments, momentsFrom}
-use Rattle.spec.specs.Percentile.{targetOf, findBin, valueAt, estimatePercentile}
+use Rattle.spec.specs.Moments.{noMoments, momentsFrom, spanOf, isFlat}
+use Rattle.spec.specs.Percentile.{targetOf, findBin, valueAt, flatPercentile, spreadPercentile, estimatePercentile}
 use Rattle.spec.specs.Root.{sqrtFloat}
-use Rattle.spec.specs.Statistics.{deviationOf, gathered, flatPercentile, spreadPercentile, flat64, summary, summaryOf, statisticsOf}
+use Rattle.spec.specs.Statistics.{deviationOf, gathered, summary, summaryOf, statisticsOf}
 use Rattle.spec.specs.Pixels.{off, on, pixel, pixels, validOf}
 use Rattle.spec.specs.Refusals.{decibelRefused, decibelsRefused}
 use Rattle.numeric.proofs.Facts.{thousand, minus-thousand}
@@ -44,7 +44,7 @@ use Rattle.bounds.specs.Bounds.{Accepted, Percentiles}
 use Rattle.bounds.proofs.Units.{units, zero-units, zero-more, zero-fewer, le-units, add-over, div-over, count-positive, count-num}
 use Rattle.bounds.proofs.Moments.{Sound, Decibel, Each, product-over, sound-moments}
 use Rattle.histogram.proofs.Counting.{none-count}
-use Rattle.bounds.proofs.Bins.{First, targetOf-first, bins-sum, histogram-length}
+use Rattle.bounds.proofs.Bins.{First, targetOf-first, bins-sum, bins-length}
 
 -- ---- the deviation
 
@@ -336,43 +336,49 @@ module _ (s : Moments) (o : Sound s) where
       (sub-le-both binary64 (s .«max_db») (s .«min_db») (ofCount 1000) zero64 (o .greatest-within .is-finite) (o .least-within .is-finite) tt tt (within-le binary64 1000 (lit< tt) (s .«max_db») (o .greatest-within)) h) tt
 
   -- any percentile of the bins
-  module _ (vs : List Float) (c : s .count ≡ length vs) (l : length vs ≤ 16777216) (h : 0 < length vs) (p : Float) where
-    found : BinRank
-    found = findBin (targetOf p (s .count)) 0 0 (histogram (map (binOf (s .«min_db») (div binary64 one64 span)) vs))
+  module _ (vs : List Float) (c : s .count ≡ length vs) (l : length vs ≤ 16777216) (p : Float) where
+    abbrev found : BinRank
+    found = findBin (targetOf p (s .count)) 0 0 (binsOf s vs)
 
-    first : First (targetOf p (length vs)) (histogram (map (binOf (s .«min_db») (div binary64 one64 span)) vs)) found
-    unfolding found
-    first =
-        subst (λ (n : ℕ). First (targetOf p (length vs)) (histogram (map (binOf (s .«min_db») (div binary64 one64 span)) vs)) (findBin (targetOf p n) 0 0 (histogram (map (binOf (s .«min_db») (div binary64 one64 span)) vs)))) (sym c)
-        (targetOf-first p (s .«min_db») (div binary64 one64 span) vs h)
+    module _ (h : 0 < length vs) where
+      first : First (targetOf p (length vs)) (binsOf s vs) found
+      first = subst (λ (n : ℕ). First (targetOf p (length vs)) (binsOf s vs) (findBin (targetOf p n) 0 0 (binsOf s vs))) (sym c) (targetOf-first p s vs h)
 
-    found-bin : found .bin ≤ 4095
-    found-bin = omega (arith, first .inside, histogram-length (map (binOf (s .«min_db») (div binary64 one64 span)) vs))
+      found-bin : found .bin ≤ 4095
+      found-bin = omega (arith, first .inside, bins-length s vs)
 
-    found-size : found .size ≤ 16777216
-    found-size =
-        omega (arith, first .size-is, at-most-sum (histogram (map (binOf (s .«min_db») (div binary64 one64 span)) vs)) (found .bin), bins-sum (s .«min_db») (div binary64 one64 span) vs)
+      found-size : found .size ≤ 16777216
+      found-size = omega (arith, first .size-is, at-most-sum (binsOf s vs) (found .bin), bins-sum s vs)
 
-    spread-least : T (le (s .«min_db») (spreadPercentile s span vs p .value))
-    unfolding spreadPercentile estimatePercentile found
-    spread-least =
-        value-least (s .«min_db») (div binary64 span bins64) (o .least-fit) (o .least-within) width-within width-over found found-bin (first .rank-below) found-size
+      spread-least : T (le (s .«min_db») (spreadPercentile s found .value))
+      unfolding spreadPercentile spanOf
+      spread-least =
+          value-least (s .«min_db») (div binary64 span bins64) (o .least-fit) (o .least-within) width-within width-over found found-bin (first .rank-below) found-size
 
-    spread-most : T (le (spreadPercentile s span vs p .value) (ofCount 2000))
-    unfolding spreadPercentile estimatePercentile found
-    spread-most =
-        ⊎-elim
-        (λ (h : T (le zero64 (s .«min_db»))). most (ofCount 1000) (div binary64 (ofCount 1000) bins64) from-thousand (within-le binary64 1000 (lit< tt) (s .«min_db») (o .least-within)) (width-le (ofCount 1000) (span-most h)))
-        (λ (h : T (le (s .«min_db») zero64)). most zero64 (div binary64 (ofCount 2000) bins64) from-zero h (width-le (ofCount 2000) (within-le binary64 2000 (lit< tt) span span-within)))
-        (le-total zero64 (s .«min_db») (number-of-finite zero64 (zero-small .is-finite)) (number-of-finite (s .«min_db») (o .least-within .is-finite)))
+      spread-most : T (le (spreadPercentile s found .value) (ofCount 2000))
+      unfolding spreadPercentile spanOf
+      spread-most =
+          ⊎-elim
+          (λ (h : T (le zero64 (s .«min_db»))). most (ofCount 1000) (div binary64 (ofCount 1000) bins64) from-thousand (within-le binary64 1000 (lit< tt) (s .«min_db») (o .least-within)) (width-le (ofCount 1000) (span-most h)))
+          (λ (h : T (le (s .«min_db») zero64)). most zero64 (div binary64 (ofCount 2000) bins64) from-zero h (width-le (ofCount 2000) (within-le binary64 2000 (lit< tt) span span-within)))
+          (le-total zero64 (s .«min_db») (number-of-finite zero64 (zero-small .is-finite)) (number-of-finite (s .«min_db») (o .least-within .is-finite)))
+        where
+          most : (L W : Float) → Ends L W → T (le (s .«min_db») L) → T (le (div binary64 span bins64) W) → T (le (valueAt (s .«min_db») (div binary64 span bins64) found) (ofCount 2000))
+          most = value-most (s .«min_db») (div binary64 span bins64) (o .least-fit) (o .least-within) width-within width-over found found-bin (first .rank-below) found-size
+
+      spread-within : Within 2000 (spreadPercentile s found .value)
+      spread-within =
+          within-between 2000 (lit< tt) (s .«min_db») (spreadPercentile s found .value) (ofCount 2000)
+          (within-weaken (s .«min_db») (lit≤ tt) (o .least-within)) (whole-within binary64 2000 (lit< tt)) spread-least spread-most
+
+    -- what holds of a percentile in both cases
+    percentile-all : (P : Float → Type 0) → P (flatPercentile s p .value) → (isFlat s ≡ false → P (spreadPercentile s found .value)) → P (estimatePercentile s (binsOf s vs) p .value)
+    unfolding estimatePercentile
+    percentile-all P a b = pick (isFlat s) refl
       where
-        most : (L W : Float) → Ends L W → T (le (s .«min_db») L) → T (le (div binary64 span bins64) W) → T (le (valueAt (s .«min_db») (div binary64 span bins64) found) (ofCount 2000))
-        most = value-most (s .«min_db») (div binary64 span bins64) (o .least-fit) (o .least-within) width-within width-over found found-bin (first .rank-below) found-size
-
-    spread-within : Within 2000 (spreadPercentile s span vs p .value)
-    spread-within =
-        within-between 2000 (lit< tt) (s .«min_db») (spreadPercentile s span vs p .value) (ofCount 2000)
-        (within-weaken (s .«min_db») (lit≤ tt) (o .least-within)) (whole-within binary64 2000 (lit< tt)) spread-least spread-most
+        pick : (t : Bool) → isFlat s ≡ t → P (cond t (flatPercentile s p) (spreadPercentile s found) .value)
+        pick true e = a
+        pick false e = b e
 
   -- any percentile of a flat scene
   flat-within : (p : Float) → Within 2000 (flatPercentile s p .value)
@@ -407,10 +413,18 @@ gathered-least : (s : Moments) (p : Float → Percentile) → ((q : Float) → T
 unfolding gathered
 gathered-least s p h = gathered-all (λ x. T (le (s .«min_db») x)) s p h
 
-none-flat : (vs : List Float) → length vs ≡ 0 → lt (sub binary64 (momentsFrom noMoments vs .«max_db») (momentsFrom noMoments vs .«min_db»)) flat64 ≡ true
-unfolding momentsFrom noMoments ofBits sub lt
+pub none-flat : (vs : List Float) → length vs ≡ 0 → isFlat (momentsFrom noMoments vs) ≡ true
+unfolding isFlat spanOf momentsFrom noMoments ofBits sub lt
 none-flat [] e = refl
 none-flat (v ∷ vs) e = absurd (omega arith)
+
+-- values that are not flat
+pub some : (vs : List Float) → isFlat (momentsFrom noMoments vs) ≡ false → 0 < length vs
+some vs a = go (length vs) refl
+  where
+    go : (n : ℕ) → length vs ≡ n → 0 < n
+    go zero z = absurd (true≢false (sym (none-flat vs z) ∙ a))
+    go (suc n) z = omega arith
 
 module _ (vs : List Float) (l : length vs ≤ 16777216) (e : Each Decibel vs) where
   abbrev s : Moments
@@ -419,39 +433,22 @@ module _ (vs : List Float) (l : length vs ≤ 16777216) (e : Each Decibel vs) wh
   few : s .count ≤ 16777216
   few = omega (arith, none-count vs)
 
-  some : (t : Bool) → lt (sub binary64 (s .«max_db») (s .«min_db»)) flat64 ≡ t → t ≡ false → 0 < length vs
-  some t a b = go (length vs) refl
-    where
-      go : (n : ℕ) → length vs ≡ n → 0 < n
-      go zero z = absurd (let w : _≡_ {A = ℕ} 0 1 = cc (none-flat vs z) in omega arith)
-      go (suc n) z = omega arith
+  o : Sound s
+  o = sound-moments vs l e
 
   -- "bounds on every field"
   stats-bounded : Bounded (summaryOf vs)
   unfolding summaryOf summary
-  stats-bounded = go (lt (sub binary64 (s .«max_db») (s .«min_db»)) flat64) refl
-    where
-      o : Sound s
-      o = sound-moments vs l e
-
-      go : (t : Bool) → lt (sub binary64 (s .«max_db») (s .«min_db»)) flat64 ≡ t →
-          Bounded (cond t (gathered s (flatPercentile s)) (gathered s (spreadPercentile s (sub binary64 (s .«max_db») (s .«min_db»)) vs)))
-      go true a = gathered-bounded s few o (flatPercentile s) (flat-within s o)
-      go false a = gathered-bounded s few o (spreadPercentile s (sub binary64 (s .«max_db») (s .«min_db»)) vs) (spread-within s o vs (none-count vs) l (some false a refl))
+  stats-bounded =
+      gathered-bounded s few o (estimatePercentile s (binsOf s vs))
+      (λ p. percentile-all s o vs (none-count vs) l p (Within 2000) (flat-within s o p) (λ a. spread-within s o vs (none-count vs) l p (some vs a)))
 
   -- "every percentile is at least min"
   stats-least : Percentiles (λ x. T (le (summaryOf vs .«min_db») x)) (summaryOf vs)
   unfolding summaryOf summary
-  stats-least = go (lt (sub binary64 (s .«max_db») (s .«min_db»)) flat64) refl
-    where
-      o : Sound s
-      o = sound-moments vs l e
-
-      go : (t : Bool) → lt (sub binary64 (s .«max_db») (s .«min_db»)) flat64 ≡ t →
-          Percentiles (λ x. T (le (cond t (gathered s (flatPercentile s)) (gathered s (spreadPercentile s (sub binary64 (s .«max_db») (s .«min_db»)) vs)) .«min_db») x))
-          (cond t (gathered s (flatPercentile s)) (gathered s (spreadPercentile s (sub binary64 (s .«max_db») (s .«min_db»)) vs)))
-      go true a = gathered-least s (flatPercentile s) (flat-least s o)
-      go false a = gathered-least s (spreadPercentile s (sub binary64 (s .«max_db») (s .«min_db»)) vs) (spread-least s o vs (none-count vs) l (some false a refl))
+  stats-least =
+      gathered-least s (estimatePercentile s (binsOf s vs))
+      (λ p. percentile-all s o vs (none-count vs) l p (λ x. T (le (s .«min_db») x)) (flat-least s o p) (λ a. spread-least s o vs (none-count vs) l p (some vs a)))
 
 -- ---- of a band that is not refused
 

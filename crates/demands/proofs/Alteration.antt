@@ -8,6 +8,7 @@ use lib.Ieee.{Float}
 use Rattle.spec.specs.Altered.{Altered}
 use Rattle.spec.specs.Refusals.{unlike, lengthsRefused}
 use Rattle.spec.specs.Statistics.{computeHistogramStats}
+use Rattle.spec.specs.Curve.{computeHistogram}
 use Rattle.spec.specs.Window.{autoscaleWindow}
 use Rattle.spec.specs.Grey.{autoscaleDbImageToU8, autoscaleDbImageToU16, greyTests}
 use Rattle.spec.specs.Picture.{syntheticRgbPicture, pictureTests}
@@ -19,10 +20,11 @@ unfolding lengthsRefused
 same-named rows cols m d d′ a = ap (λ (n : ℕ). unlike n (rows * cols) || unlike (length m) (rows * cols)) (a .sized)
 
 pub alteration : Alteration
-unfolding computeHistogramStats autoscaleWindow autoscaleDbImageToU8 autoscaleDbImageToU16 greyTests syntheticRgbPicture pictureTests
+unfolding computeHistogramStats computeHistogram autoscaleWindow autoscaleDbImageToU8 autoscaleDbImageToU16 greyTests syntheticRgbPicture pictureTests
 alteration =
     record {
       statistics = λ rows cols m d d′ a. cc (same-pixels m d d′ a, same-named rows cols m d d′ a);
+      histogram = λ rows cols m d d′ out a. cc (same-pixels m d d′ a, same-named rows cols m d d′ a);
       window = λ strategy rows cols m d d′ a. cc (same-pixels m d d′ a, same-named rows cols m d d′ a);
       at-8-bits = λ strategy rows cols m d d′ out work a. cc (same-pixels m d d′ a, same-named rows cols m d d′ a);
       at-16-bits = λ strategy rows cols m d d′ out work a. cc (same-pixels m d d′ a, same-named rows cols m d d′ a);

@@ -23,7 +23,7 @@ use Rattle.spec.specs.Refusals.{sidesRefused, lengthsRefused, unlike, workRefus
 use Rattle.spec.specs.Strategies.{isTamed}
 use Rattle.spec.specs.Bins.{binOf, histogram}
 use Rattle.spec.specs.Statistics.{statisticsOf, computeHistogramStats}
-use Rattle.spec.specs.Window.{validRange, lowContrastClip, heavyTailedClip, highRangeClip, normalClip, standardClip, robustClip, chooseClip, tamedClip, opened, windowOf, pictureWindow, gammaRefused, readWindow, autoscaleWindow}
+use Rattle.spec.specs.Window.{validRange, lowContrastClip, heavyTailedClip, highRangeClip, normalClip, standardClip, robustClip, skewFactor, tailHeaviness, adaptiveClip, chooseClip, tamedClip, opened, windowOf, pictureWindow, gammaRefused, readWindow, autoscaleWindow}
 use Rattle.spec.specs.Value.{full8}
 use Rattle.spec.specs.Stretch.{stretch}
 use Rattle.spec.specs.Grey.{values, greyTests, autoscaleDbImageToU8}
@@ -32,7 +32,7 @@ use Rattle.types.specs.declared.Lent.{Lent}
 use Rattle.spec.specs.Picture.{Picture, pictureGreys, composed, pictureTests, syntheticRgbPicture}
 use Rattle.lists.proofs.Counts.{Below, counts-sum}
 use Rattle.raster.proofs.Bands.{or-false}
-use Rattle.demands.specs.Beside.{withMean, Beside}
+use Rattle.demands.specs.Beside.{withMean, withBins, Beside}
 use Rattle.demands.proofs.Accepted.{done-or-refused, done-same, done-answer, none-holds, all-clear, both-false, named-lengths}
 use Rattle.demands.proofs.Counted.{count-marks}
 
@@ -120,6 +120,33 @@ picture-unread strategy n copol s m d =
     ap (λ (c : Clip). cond (eqb (s .«valid_count») 0) Blank (opened (cond (isTamed strategy) c (chooseClip strategy (withMean m d s))))) (tamedClip-unread copol s m d)
     ∙ ap (λ (c : Clip). cond (eqb (s .«valid_count») 0) Blank (opened (cond (isTamed strategy) (tamedClip copol s) c))) (clip-unread strategy n s m d)
 
+-- ---- the bins
+
+clip-bins-unread : (strategy : AutoscaleStrategy) (s : HistogramStats) (b05 b95 : ℕ) → chooseClip strategy (withBins b05 b95 s) ≡ chooseClip strategy s
+unfolding chooseClip standardClip robustClip adaptiveClip skewFactor tailHeaviness validRange lowContrastClip heavyTailedClip highRangeClip normalClip
+clip-bins-unread Standard s b05 b95 = refl
+clip-bins-unread Robust s b05 b95 = refl
+clip-bins-unread Adaptive s b05 b95 = refl
+clip-bins-unread Equalized s b05 b95 = refl
+clip-bins-unread Clahe s b05 b95 = refl
+clip-bins-unread Tamed s b05 b95 = refl
+clip-bins-unread Default s b05 b95 = refl
+
+tamedClip-bins-unread : (copol : Bool) (s : HistogramStats) (b05 b95 : ℕ) → tamedClip copol (withBins b05 b95 s) ≡ tamedClip copol s
+unfolding tamedClip
+tamedClip-bins-unread true s b05 b95 = refl
+tamedClip-bins-unread false s b05 b95 = refl
+
+window-bins-unread : (strategy : AutoscaleStrategy) (s : HistogramStats) (b05 b95 : ℕ) → windowOf strategy (withBins b05 b95 s) ≡ windowOf strategy s
+unfolding windowOf
+window-bins-unread strategy s b05 b95 = ap (λ (c : Clip). cond (eqb (s .«valid_count») 0) Blank (opened c)) (clip-bins-unread strategy s b05 b95)
+
+picture-window-bins-unread : (strategy : AutoscaleStrategy) (copol : Bool) (s : HistogramStats) (b05 b95 : ℕ) → pictureWindow strategy copol (withBins b05 b95 s) ≡ pictureWindow strategy copol s
+unfolding pictureWindow
+picture-window-bins-unread strategy copol s b05 b95 =
+    ap (λ (c : Clip). cond (eqb (s .«valid_count») 0) Blank (opened (cond (isTamed strategy) c (chooseClip strategy (withBins b05 b95 s))))) (tamedClip-bins-unread copol s b05 b95)
+    ∙ ap (λ (c : Clip). cond (eqb (s .«valid_count») 0) Blank (opened (cond (isTamed strategy) (tamedClip copol s) c))) (clip-bins-unread strategy s b05 b95)
+
 -- ---- the greys of a picture
 
 not-tamed : (strategy : AutoscaleStrategy) → (strategy ≡ Tamed → ⊥) → isTamed strategy ≡ false
@@ -186,6 +213,8 @@ beside =
       only-blank = none-marked;
       mean-unread = window-unread;
       picture-mean-unread = picture-unread;
+      bins-unread = window-bins-unread;
+      picture-bins-unread = picture-window-bins-unread;
       picture-greys = λ strategy n mode rows cols m1 d1 m2 d2 lent. picture-grey strategy (not-tamed strategy n) mode rows cols m1 d1 m2 d2 lent;
       picture-modes = λ strategy mode mode′ rows cols m1 d1 m2 d2 lent. refl;
       composition-modes = λ strategy mode mode′ band1 band2 out. refl;

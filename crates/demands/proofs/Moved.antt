@@ -79,7 +79,7 @@ module _ (ps : List ℕ) (n : ℕ) (o : Order ps n) where
   order-of : {A : Type 0} (xs : List A) → length xs ≡ n → Order ps (length xs)
   order-of xs e = rw e o
 
-  moved-pixels : (m : List ℕ) (d : List Float) → length m ≡ n → length d ≡ n → pixels (moved 0 ps m) (moved nan ps d) ≡ moved off ps (pixels m d)
+  pub moved-pixels : (m : List ℕ) (d : List Float) → length m ≡ n → length d ≡ n → pixels (moved 0 ps m) (moved nan ps d) ≡ moved off ps (pixels m d)
   unfolding pixels pixel
   moved-pixels m d e f = zip-moved pixel 0 nan ps m d (e ∙ sym f)
 
@@ -144,17 +144,17 @@ module _ (ps : List ℕ) (n : ℕ) (o : Order ps n) where
 
   -- ---- the tests of a band
 
-  named-moved : (rows cols : ℕ) (m : List ℕ) (d : List Float) → length m ≡ n → length d ≡ n → lengthsRefused rows cols (moved 0 ps m) (moved nan ps d) ≡ lengthsRefused rows cols m d
+  pub named-moved : (rows cols : ℕ) (m : List ℕ) (d : List Float) → length m ≡ n → length d ≡ n → lengthsRefused rows cols (moved 0 ps m) (moved nan ps d) ≡ lengthsRefused rows cols m d
   unfolding lengthsRefused
   named-moved rows cols m d e f =
       ap (λ (k : ℕ). unlike k (rows * cols) || unlike (length (moved 0 ps m)) (rows * cols)) (length-map ps (λ i. getD d i nan) ∙ order-size ps n o ∙ sym f)
       ∙ ap (λ (k : ℕ). unlike (length d) (rows * cols) || unlike k (rows * cols)) (length-map ps (λ i. getD m i 0) ∙ order-size ps n o ∙ sym e)
 
-  mark-moved : (m : List ℕ) → length m ≡ n → marksRefused (moved 0 ps m) ≡ marksRefused m
+  pub mark-moved : (m : List ℕ) → length m ≡ n → marksRefused (moved 0 ps m) ≡ marksRefused m
   unfolding marksRefused
   mark-moved m e = any-perm (ltb 1) (moved-perm 0 ps m (order-of m e))
 
-  decibel-moved : (px : List Pixel) → length px ≡ n → decibelsRefused (moved off ps px) ≡ decibelsRefused px
+  pub decibel-moved : (px : List Pixel) → length px ≡ n → decibelsRefused (moved off ps px) ≡ decibelsRefused px
   unfolding decibelsRefused
   decibel-moved px e = any-perm decibelRefused (moved-perm off ps px (order-of px e))
 

@@ -1,6 +1,6 @@
 -- The reordering claim: reordered values have the same least, greatest and percentiles as numbers, and windows of the same numbers paint alike. Assumes nothing.
 use mathlib.Core.Path.{_≡_, refl, sym, ap, _∙_, subst}
-use mathlib.Core.Bool.{Bool, true, false}
+use mathlib.Core.Bool.{Bool, true, false, _||_}
 use mathlib.Core.List.{List, [], _∷_, zipWith, List·Permᴰ, Permᴰ·symm}
 use Prim.Native.Nat.{ℕ, zero, suc, _+_, _*_, _<_, suc-le-suc, zero-le}
 use native.Mathlib.Nat.{add-zero, zero-add}
@@ -12,12 +12,14 @@ use Rattle.types.specs.declared.AutoscaleStrategy.{AutoscaleStrategy}
 use Rattle.types.specs.declared.SyntheticRgbMode.{SyntheticRgbMode}
 use Rattle.types.specs.declared.Rgb.{Rgb}
 use Rattle.spec.specs.Number.{Alike, same}
-use Rattle.spec.specs.Answer.{Answer, refused, done}
+use Rattle.types.specs.declared.HistogramStats.{HistogramStats}
+use Rattle.spec.specs.Answer.{Answer, refused, done, firstOf, orRefused, answer}
 use Rattle.spec.specs.Lists.{any}
 use Rattle.spec.specs.Pixels.{Pixel, off, on, pixel, pixels, validOf}
-use Rattle.spec.specs.Refusals.{decibelRefused, decibelsRefused}
+use Rattle.spec.specs.Refusals.{sidesRefused, unlike, lengthsRefused, marksRefused, decibelRefused, decibelsRefused}
 use Rattle.spec.specs.Moments.{noMoments, withValue, momentsFrom}
-use Rattle.spec.specs.Statistics.{statisticsOf, summaryOf}
+use Rattle.spec.specs.Statistics.{statisticsOf, summaryOf, computeHistogramStats}
+use Rattle.spec.specs.Curve.{curveOf, computeHistogram}
 use Rattle.spec.specs.Colour.{bytesOf}
 use Rattle.types.specs.declared.Lent.{Lent}
 use Rattle.spec.specs.Picture.{Picture, syntheticRgbPicture}
@@ -25,13 +27,13 @@ use Rattle.spec.specs.Places.{Order, moved, dark, movedPicture}
 use Rattle.lists.proofs.Reorder.{perm-length, valid-perm, moved-perm}
 use Rattle.numeric.proofs.Order.{Number, number-of-finite}
 use Rattle.raster.proofs.Bands.{or-false}
-use Rattle.demands.specs.Reordering.{Reorders, AreF64, movedTriples, MovedBy, same-refusal, both-done, Reordering}
+use Rattle.demands.specs.Reordering.{Reorders, AreF64, movedTriples, MovedBy, same-refusal, both-done, SameBins, refused-alike, same-bins, Reordering}
 use Rattle.demands.proofs.Accepted.{good-finite}
 use Rattle.demands.proofs.Painted.{not-clahe}
 use Rattle.demands.proofs.Counted.{moments-count}
 use Rattle.demands.proofs.FirstMet.{Each, Fits, moments-least, moments-greatest, least-alike, greatest-alike}
-use Rattle.demands.proofs.Steadiness.{SameMoments, SameNumbers, Steady, summary-alike, window-steady}
-use Rattle.demands.proofs.Moved.{win, pixels-size, reordered-picture}
+use Rattle.demands.proofs.Steadiness.{SameMoments, SameNumbers, Steady, bins-alike, summary-alike, window-steady}
+use Rattle.demands.proofs.Moved.{win, pixels-size, moved-pixels, named-moved, mark-moved, decibel-moved, reordered-picture}
 
 -- ---- valid values are numbers, and floats of the format
 
@@ -71,14 +73,55 @@ same-numbers : (px qx : List Pixel) → List·Permᴰ px qx → decibelsRefused 
 unfolding statisticsOf summaryOf decibelsRefused
 same-numbers px qx p e f = summary-alike _ _ (same-moments (validOf px) (validOf qx) (valid-perm p) (valid-numbers px e) f) (valid-perm p)
 
+-- ---- the statistics and the curve of a band
+
+module _ (ps : List ℕ) (n : ℕ) (o : Order ps n) (m : List ℕ) (d : List Float) (e : length m ≡ n) (f : length d ≡ n) (h : AreF64 d) where
+  reordered-pixels : List·Permᴰ (pixels m d) (moved off ps (pixels m d))
+  reordered-pixels = Permᴰ·symm (moved-perm off ps (pixels m d) (subst (Order ps) (sym (pixels-size ps n o m d e f)) o))
+
+  band-numbers : decibelsRefused (pixels m d) ≡ false → SameNumbers (statisticsOf (pixels m d)) (statisticsOf (moved off ps (pixels m d)))
+  band-numbers g = same-numbers (pixels m d) (moved off ps (pixels m d)) reordered-pixels g (valid-fits m d h)
+
+  band-curve : decibelsRefused (pixels m d) ≡ false → curveOf (pixels m d) ≡ curveOf (moved off ps (pixels m d))
+  unfolding curveOf decibelsRefused
+  band-curve g =
+      bins-alike _ _ (same-moments (validOf (pixels m d)) (validOf (moved off ps (pixels m d))) (valid-perm reordered-pixels) (valid-numbers (pixels m d) g) (valid-fits m d h))
+      (valid-perm reordered-pixels)
+
+  -- the tests of a band are the same ones
+  module _ (rows cols : ℕ) where
+    bins-same : SameBins (computeHistogramStats rows cols m d) (computeHistogramStats rows cols (moved 0 ps m) (moved nan ps d))
+    unfolding computeHistogramStats firstOf answer orRefused
+    bins-same =
+        rw (moved-pixels ps n o m d e f, named-moved ps n o rows cols m d e f, mark-moved ps n o m e, decibel-moved ps n o (pixels m d) (pixels-size ps n o m d e f))
+        (go (sidesRefused rows cols) (lengthsRefused rows cols m d) (marksRefused m) (decibelsRefused (pixels m d)) band-numbers)
+      where
+        go : (a b c g : Bool) {s t : HistogramStats} → (g ≡ false → SameNumbers s t) → SameBins (answer (firstOf 1 (a ∷ b ∷ c ∷ g ∷ [])) s) (answer (firstOf 1 (a ∷ b ∷ c ∷ g ∷ [])) t)
+        go true b c g k = refused-alike 1
+        go false true c g k = refused-alike 2
+        go false false true g k = refused-alike 3
+        go false false false true k = refused-alike 4
+        go false false false false k = same-bins (k refl .p05-bin) (k refl .p95-bin)
+
+    curve-same : (out : ℕ) → computeHistogram rows cols (moved 0 ps m) (moved nan ps d) out ≡ computeHistogram rows cols m d out
+    unfolding computeHistogram firstOf answer orRefused
+    curve-same out =
+        rw (moved-pixels ps n o m d e f, named-moved ps n o rows cols m d e f, mark-moved ps n o m e, decibel-moved ps n o (pixels m d) (pixels-size ps n o m d e f))
+        (go (sidesRefused rows cols) (lengthsRefused rows cols m d || unlike out 4096) (marksRefused m) (decibelsRefused (pixels m d)) band-curve)
+      where
+        go : (a b c g : Bool) {s t : List ℕ} → (g ≡ false → s ≡ t) → answer (firstOf 1 (a ∷ b ∷ c ∷ g ∷ [])) t ≡ answer (firstOf 1 (a ∷ b ∷ c ∷ g ∷ [])) s
+        go true b c g k = refl
+        go false true c g k = refl
+        go false false true g k = refl
+        go false false false true k = refl
+        go false false false false k = ap done (sym (k refl))
+
 -- ---- a picture
 
 module _ (ps : List ℕ) (n : ℕ) (o : Order ps n) (strategy : AutoscaleStrategy) (r : Reorders strategy) where
   band-steady : (copol : Bool) (m : List ℕ) (d : List Float) → length m ≡ n → length d ≡ n → AreF64 d → decibelsRefused (pixels m d) ≡ false →
       Steady (win strategy copol (moved off ps (pixels m d))) (win strategy copol (pixels m d))
-  band-steady copol m d e f h g =
-      let p : List·Permᴰ (pixels m d) (moved off ps (pixels m d)) = Permᴰ·symm (moved-perm off ps (pixels m d) (subst (Order ps) (sym (pixels-size ps n o m d e f)) o)) in
-      steady-sym (window-steady strategy (r .0) copol _ _ (same-numbers (pixels m d) (moved off ps (pixels m d)) p g (valid-fits m d h)))
+  band-steady copol m d e f h g = steady-sym (window-steady strategy (r .0) copol _ _ (band-numbers ps n o m d e f h g))
     where
       steady-sym : {w w′ : _} → Steady w w′ → Steady w′ w
       steady-sym s = record { gamma = sym (s .gamma); paints = λ full p. sym (s .paints full p) }
@@ -137,5 +180,7 @@ reordering =
     record {
       picture = λ strategy r mode rows cols m1 d1 m2 d2 lent n em1 ed1 em2 ed2 f1 f2 ps o.
           in-bytes ps _ _ (reordered ps n o strategy r mode rows cols m1 d1 m2 d2 lent em1 ed1 em2 ed2 f1 f2);
+      bins = λ rows cols m d n e f h ps o. bins-same ps n o m d e f h rows cols;
+      curve = λ rows cols m d out n e f h ps o. curve-same ps n o m d e f h rows cols out;
       equation = λ strategy r mode rows cols m1 d1 m2 d2 lent n em1 ed1 em2 ed2 f1 f2 ps o. reordered ps n o strategy r mode rows cols m1 d1 m2 d2 lent em1 ed1 em2 ed2 f1 f2;
     }

@@ -1,7 +1,7 @@
 -- Statistics that are the same numbers outside mean and deviation give windows that paint alike, in every strategy but Adaptive. Assumes nothing.
 use mathlib.Core.Path.{_≡_, refl, sym, ap, _∙_, subst}
 use mathlib.Core.Bool.{Bool, true, false, cond, true≢false}
-use mathlib.Core.List.{List, List·Permᴰ}
+use mathlib.Core.List.{List, map, List·Permᴰ}
 use Prim.Native.Nat.{ℕ, min}
 use lib.Dec.{T, eqb}
 use lib.IntN.{pos}
@@ -9,6 +9,7 @@ use lib.Ieee.{Float, fin, binary64, sub, div, lt, ne, ofBits}
 use lib.Ieee.Positive.{positive}
 use Rattle.types.specs.declared.AutoscaleStrategy.{AutoscaleStrategy}
 use Rattle.types.specs.declared.AutoscaleStrategy.the-variants.{Standard, Robust, Adaptive, Equalized, Clahe, Tamed, Default}
+use Rattle.types.specs.declared.BinRank.{BinRank}
 use Rattle.types.specs.declared.Clip.{Clip}
 use Rattle.types.specs.declared.HistogramStats.{HistogramStats}
 use Rattle.types.specs.declared.Moments.{Moments}
@@ -19,9 +20,10 @@ use Rattle.spec.specs.Floats.{half64, one64, two64, maxFloat}
 use Rattle.spec.specs.Lists.{counts}
 use Rattle.spec.specs.Number.{Alike, same, zeros}
 use Rattle.spec.specs.Pixels.{Pixel, off, on}
-use Rattle.spec.specs.Bins.{bins64, binOf, histogram}
-use Rattle.spec.specs.Percentile.{valueAt, estimatePercentile}
-use Rattle.spec.specs.Statistics.{gathered, flatPercentile, spreadPercentile, flat64, summary}
+use Rattle.spec.specs.Moments.{flat64, spanOf, isFlat}
+use Rattle.spec.specs.Bins.{bins64, binOf, histogram, binsOf}
+use Rattle.spec.specs.Percentile.{targetOf, findBin, valueAt, flatPercentile, spreadPercentile, estimatePercentile}
+use Rattle.spec.specs.Statistics.{gathered, summary}
 use Rattle.spec.specs.Strategies.{isTamed}
 use Rattle.spec.specs.Value.{normalized, valueOf, paint}
 use Rattle.spec.specs.Window.{validRange, lowContrastClip, outlier, heavyTailedClip, highRangeClip, normalClip, standardClip, robustClip, chooseClip, tamedClip, opened, pictureWindow, gammaRefused}
@@ -84,66 +86,93 @@ pub record SameNumbers (s s′ : HistogramStats) : Type 0 where
   pub p95 : Alike (s .p95) (s′ .p95)
   pub p98 : Alike (s .p98) (s′ .p98)
   pub p99 : Alike (s .p99) (s′ .p99)
+  pub p05-bin : s .«p05_bin» ≡ s′ .«p05_bin»
+  pub p95-bin : s .«p95_bin» ≡ s′ .«p95_bin»
 
-pick-numbers : (q q′ : Bool) → q ≡ q′ → {a a′ b b′ : HistogramStats} → (q ≡ true → SameNumbers a a′) → (q ≡ false → SameNumbers b b′) → SameNumbers (cond q a b) (cond q′ a′ b′)
-pick-numbers true true e f g = f refl
-pick-numbers false false e f g = g refl
-pick-numbers true false e f g = absurd (true≢false e)
-pick-numbers false true e f g = absurd (true≢false (sym e))
+-- the same number in the same bin
+record SamePercentile (q q′ : Percentile) : Type 0 where
+  value : Alike (q .value) (q′ .value)
+  bin : q .bin ≡ q′ .bin
+
+pick-percentile : (t t′ : Bool) → t ≡ t′ → {a a′ b b′ : Percentile} → SamePercentile a a′ → (t ≡ false → SamePercentile b b′) → SamePercentile (cond t a b) (cond t′ a′ b′)
+pick-percentile true true e f g = f
+pick-percentile false false e f g = g refl
+pick-percentile true false e f g = absurd (true≢false e)
+pick-percentile false true e f g = absurd (true≢false (sym e))
+
+pick-bins : (t t′ : Bool) → t ≡ t′ → {a a′ b b′ : List ℕ} → a ≡ a′ → (t ≡ false → b ≡ b′) → cond t a b ≡ cond t′ a′ b′
+pick-bins true true e f g = f
+pick-bins false false e f g = g refl
+pick-bins true false e f g = absurd (true≢false e)
+pick-bins false true e f g = absurd (true≢false (sym e))
 
 module _ (s s′ : Moments) (h : SameMoments s s′) where
-  gathered-alike : (f f′ : Float → Percentile) → ((p : Float) → Alike (f p .value) (f′ p .value)) → SameNumbers (gathered s f) (gathered s′ f′)
+  gathered-alike : (f f′ : Float → Percentile) → ((p : Float) → SamePercentile (f p) (f′ p)) → SameNumbers (gathered s f) (gathered s′ f′)
   unfolding gathered
   gathered-alike f f′ a =
       record {
         count = h .count;
         least = h .least;
         greatest = h .greatest;
-        median = a _;
-        p01 = a _;
-        p02 = a _;
-        p05 = a _;
-        p10 = a _;
-        p25 = a _;
-        p75 = a _;
-        p90 = a _;
-        p95 = a _;
-        p98 = a _;
-        p99 = a _;
+        median = a _ .value;
+        p01 = a _ .value;
+        p02 = a _ .value;
+        p05 = a _ .value;
+        p10 = a _ .value;
+        p25 = a _ .value;
+        p75 = a _ .value;
+        p90 = a _ .value;
+        p95 = a _ .value;
+        p98 = a _ .value;
+        p99 = a _ .value;
+        p05-bin = a _ .bin;
+        p95-bin = a _ .bin;
       }
 
-  flat-alike : (p : Float) → Alike (flatPercentile s p .value) (flatPercentile s′ p .value)
+  flat-alike : (p : Float) → SamePercentile (flatPercentile s p) (flatPercentile s′ p)
   unfolding flatPercentile
-  flat-alike p = pick (lt half64 p)
+  flat-alike p = record { value = pick (lt half64 p); bin = refl }
     where
       pick : (q : Bool) → Alike (cond q (s .«max_db») (s .«min_db»)) (cond q (s′ .«max_db») (s′ .«min_db»))
       pick true = h .greatest
       pick false = h .least
 
+  flat-same : isFlat s ≡ isFlat s′
+  unfolding isFlat spanOf
+  flat-same = lt-alike (sub-alike (h .greatest) (h .least)) same
+
+  span-same : isFlat s ≡ false → spanOf s ≡ spanOf s′
+  unfolding isFlat spanOf
+  span-same e = spread-same (sub-alike (h .greatest) (h .least)) e
+
   -- the bins do not see a zero's sign, and counting does not see the order
-  spread-alike : (span : Float) {vs vs′ : List Float} → List·Permᴰ vs vs′ → (p : Float) → Alike (spreadPercentile s span vs p .value) (spreadPercentile s′ span vs′ p .value)
-  unfolding spreadPercentile estimatePercentile valueAt histogram
-  spread-alike span {vs} {vs′} o p =
-      let bin = binOf (s .«min_db») (div binary64 one64 span) in
-      let hist = counts-perm 4096 (perm-map bin o) ∙ ap (counts 4096) (map-same bin (binOf (s′ .«min_db») (div binary64 one64 span)) (bin-alike (div binary64 one64 span) (h .least)) vs′) in
-      rw (hist, h .count) (add-alike (add-alike (h .least) same) same)
+  pub bins-alike : {vs vs′ : List Float} → List·Permᴰ vs vs′ → binsOf s vs ≡ binsOf s′ vs′
+  unfolding binsOf histogram
+  bins-alike {vs} {vs′} o = pick-bins (isFlat s) (isFlat s′) flat-same (counts-perm 4096 (perm-map (λ v. 0) o)) spread
+    where
+      spread : isFlat s ≡ false → counts 4096 (map (binOf (s .«min_db») (div binary64 one64 (spanOf s))) vs) ≡ counts 4096 (map (binOf (s′ .«min_db») (div binary64 one64 (spanOf s′))) vs′)
+      spread e =
+          counts-perm 4096 (perm-map (binOf (s .«min_db») (div binary64 one64 (spanOf s))) o)
+          ∙ ap (counts 4096) (map-same (binOf (s .«min_db») (div binary64 one64 (spanOf s))) (binOf (s′ .«min_db») (div binary64 one64 (spanOf s))) (bin-alike (div binary64 one64 (spanOf s)) (h .least)) vs′)
+          ∙ ap (λ (x : Float). counts 4096 (map (binOf (s′ .«min_db») (div binary64 one64 x)) vs′)) (span-same e)
+
+  spread-alike : (r : BinRank) → isFlat s ≡ false → SamePercentile (spreadPercentile s r) (spreadPercentile s′ r)
+  unfolding spreadPercentile valueAt
+  spread-alike r e = record { value = rw (span-same e) (add-alike (add-alike (h .least) same) same); bin = refl }
+
+  percentile-alike : (hist : List ℕ) (p : Float) → SamePercentile (estimatePercentile s hist p) (estimatePercentile s′ hist p)
+  unfolding estimatePercentile
+  percentile-alike hist p =
+      pick-percentile (isFlat s) (isFlat s′) flat-same (flat-alike p)
+      (λ e. subst (λ (n : ℕ). SamePercentile (spreadPercentile s (findBin (targetOf p (s .count)) 0 0 hist)) (spreadPercentile s′ (findBin (targetOf p n) 0 0 hist))) (h .count)
+      (spread-alike (findBin (targetOf p (s .count)) 0 0 hist) e))
 
   -- of two reordered lists of values
   pub summary-alike : {vs vs′ : List Float} → List·Permᴰ vs vs′ → SameNumbers (summary s vs) (summary s′ vs′)
   unfolding summary
   summary-alike {vs} {vs′} o =
-      pick-numbers (lt span flat64) (lt span′ flat64) (lt-alike alike same) (λ e. gathered-alike (flatPercentile s) (flatPercentile s′) flat-alike)
-      (λ e. subst (λ (x : Float). SameNumbers (gathered s (spreadPercentile s span vs)) (gathered s′ (spreadPercentile s′ x vs′))) (spread-same alike e)
-      (gathered-alike (spreadPercentile s span vs) (spreadPercentile s′ span vs′) (spread-alike span o)))
-    where
-      span : Float
-      span = sub binary64 (s .«max_db») (s .«min_db»)
-
-      span′ : Float
-      span′ = sub binary64 (s′ .«max_db») (s′ .«min_db»)
-
-      alike : Alike span span′
-      alike = sub-alike (h .greatest) (h .least)
+      subst (λ (hist : List ℕ). SameNumbers (gathered s (estimatePercentile s (binsOf s vs))) (gathered s′ (estimatePercentile s′ hist))) (bins-alike o)
+      (gathered-alike (estimatePercentile s (binsOf s vs)) (estimatePercentile s′ (binsOf s vs)) (percentile-alike (binsOf s vs)))
 
 -- ---- windows
 

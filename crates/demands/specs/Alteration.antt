@@ -7,6 +7,7 @@ use Rattle.types.specs.declared.AutoscaleStrategy.{AutoscaleStrategy}
 use Rattle.types.specs.declared.SyntheticRgbMode.{SyntheticRgbMode}
 use Rattle.spec.specs.Altered.{Altered}
 use Rattle.spec.specs.Statistics.{computeHistogramStats}
+use Rattle.spec.specs.Curve.{computeHistogram}
 use Rattle.spec.specs.Window.{autoscaleWindow}
 use Rattle.spec.specs.Grey.{autoscaleDbImageToU8, autoscaleDbImageToU16}
 use Rattle.types.specs.declared.Lent.{Lent}
@@ -18,6 +19,9 @@ pub record Alteration : Type 0 where
   pub statistics :
       (rows cols : ℕ) (marks : List ℕ) (db db′ : List Float) → Altered marks db db′ →
       computeHistogramStats rows cols marks db ≡ computeHistogramStats rows cols marks db′
+  -- document 02, F-6
+  pub histogram :
+      (rows cols : ℕ) (marks : List ℕ) (db db′ : List Float) (out : ℕ) → Altered marks db db′ → computeHistogram rows cols marks db out ≡ computeHistogram rows cols marks db′ out
   pub window :
       (strategy : AutoscaleStrategy) (rows cols : ℕ) (marks : List ℕ) (db db′ : List Float) → Altered marks db db′ →
       autoscaleWindow strategy rows cols marks db ≡ autoscaleWindow strategy rows cols marks db′

@@ -39,6 +39,32 @@ withMean m d s =
       p95 = s .p95;
       p98 = s .p98;
       p99 = s .p99;
+      «p05_bin» = s .«p05_bin»;
+      «p95_bin» = s .«p95_bin»;
+    }
+
+-- the statistics with other bins
+abbrev pub withBins : ℕ → ℕ → HistogramStats → HistogramStats
+withBins b05 b95 s =
+    record {
+      «valid_count» = s .«valid_count»;
+      «min_db» = s .«min_db»;
+      «max_db» = s .«max_db»;
+      «mean_db» = s .«mean_db»;
+      «std_db» = s .«std_db»;
+      «median_db» = s .«median_db»;
+      p01 = s .p01;
+      p02 = s .p02;
+      p05 = s .p05;
+      p10 = s .p10;
+      p25 = s .p25;
+      p75 = s .p75;
+      p90 = s .p90;
+      p95 = s .p95;
+      p98 = s .p98;
+      p99 = s .p99;
+      «p05_bin» = b05;
+      «p95_bin» = b95;
     }
 
 pub record Beside : Type 0 where
@@ -60,6 +86,10 @@ pub record Beside : Type 0 where
   pub picture-mean-unread :
       (strategy : AutoscaleStrategy) → (strategy ≡ Adaptive → ⊥) → (copol : Bool) (s : HistogramStats) (m d : Float) →
       pictureWindow strategy copol (withMean m d s) ≡ pictureWindow strategy copol s
+  -- document 02, F-6: "Pixel bytes are unaffected": no window reads the bins, and greys and colours read windows
+  pub bins-unread : (strategy : AutoscaleStrategy) (s : HistogramStats) (b05 b95 : ℕ) → windowOf strategy (withBins b05 b95 s) ≡ windowOf strategy s
+  pub picture-bins-unread :
+      (strategy : AutoscaleStrategy) (copol : Bool) (s : HistogramStats) (b05 b95 : ℕ) → pictureWindow strategy copol (withBins b05 b95 s) ≡ pictureWindow strategy copol s
   -- outside Tamed the greys of a picture are those of the grey call at 8 bits
   pub picture-greys :
       (strategy : AutoscaleStrategy) → (strategy ≡ Tamed → ⊥) → (mode : SyntheticRgbMode) (rows cols : ℕ) (marks1 : List ℕ) (db1 : List Float) (marks2 : List ℕ) (db2 : List Float)

@@ -8,7 +8,10 @@ use lib.Ieee.{Float, nan, binary64, fits}
 use Rattle.types.specs.declared.AutoscaleStrategy.{AutoscaleStrategy}
 use Rattle.types.specs.declared.AutoscaleStrategy.the-variants.{Adaptive, Clahe}
 use Rattle.types.specs.declared.SyntheticRgbMode.{SyntheticRgbMode}
+use Rattle.types.specs.declared.HistogramStats.{HistogramStats}
 use Rattle.spec.specs.Answer.{Answer, refused, done}
+use Rattle.spec.specs.Statistics.{computeHistogramStats}
+use Rattle.spec.specs.Curve.{computeHistogram}
 use Rattle.spec.specs.Colour.{bytesOf}
 use Rattle.types.specs.declared.Lent.{Lent}
 use Rattle.spec.specs.Picture.{Picture, syntheticRgbPicture}
@@ -34,6 +37,11 @@ pub data MovedBy (ps : List ℕ) : Answer Picture → Answer Picture → Type 0 
       q .grey1 ≡ moved 0 ps (p .grey1) → q .grey2 ≡ moved 0 ps (p .grey2) → bytesOf (q .colours) ≡ movedTriples ps (bytesOf (p .colours)) →
       MovedBy ps (done p) (done q)
 
+-- document 02, F-6: the same refusal, or the same bins of p05 and p95
+pub data SameBins : Answer HistogramStats → Answer HistogramStats → Type 0 where
+  refused-alike : (k : ℕ) → SameBins (refused k) (refused k)
+  same-bins : {s t : HistogramStats} → s .«p05_bin» ≡ t .«p05_bin» → s .«p95_bin» ≡ t .«p95_bin» → SameBins (done s) (done t)
+
 -- "A reordering is one permutation of the places of four lists of one length, n or not: dB and marks of both bands."
 -- "the two scenes compared have the same sides, strategy, mode and lent lengths"
 pub record Reordering : Type 0 where
@@ -48,3 +56,10 @@ pub record Reordering : Type 0 where
       (size : ℕ) → length marks1 ≡ size → length db1 ≡ size → length marks2 ≡ size → length db2 ≡ size → AreF64 db1 → AreF64 db2 → (ps : List ℕ) → Order ps size →
       syntheticRgbPicture strategy mode rows cols (moved 0 ps marks1) (moved nan ps db1) (moved 0 ps marks2) (moved nan ps db2) lent
       ≡ movedPicture ps (syntheticRgbPicture strategy mode rows cols marks1 db1 marks2 db2 lent)
+  -- the bins of p05 and p95 and the whole curve do not see the order
+  pub bins :
+      (rows cols : ℕ) (marks : List ℕ) (db : List Float) (size : ℕ) → length marks ≡ size → length db ≡ size → AreF64 db → (ps : List ℕ) → Order ps size →
+      SameBins (computeHistogramStats rows cols marks db) (computeHistogramStats rows cols (moved 0 ps marks) (moved nan ps db))
+  pub curve :
+      (rows cols : ℕ) (marks : List ℕ) (db : List Float) (out size : ℕ) → length marks ≡ size → length db ≡ size → AreF64 db → (ps : List ℕ) → Order ps size →
+      computeHistogram rows cols (moved 0 ps marks) (moved nan ps db) out ≡ computeHistogram rows cols marks db out

@@ -1,13 +1,16 @@
--- Without mean and m2 the summary differs in its mean and deviation only. Assumes nothing.
+-- Without mean and m2 the summary differs in its mean and deviation only, and the bins not at all. Assumes nothing.
 use mathlib.Core.Path.{_≡_, refl, sym, ap, _∙_}
-use mathlib.Core.Bool.{Bool, true, false, cond}
 use mathlib.Core.List.{List, [], _∷_}
-use lib.Ieee.{Float, binary64, sub, lt}
+use lib.ListN.{length}
+use lib.Ieee.{Float}
 use Rattle.types.specs.declared.Moments.{Moments}
 use Rattle.spec.specs.Floats.{zero64}
-use Rattle.spec.specs.Moments.{noMoments, withValue, momentsFrom}
-use Rattle.spec.specs.Statistics.{deviationOf, gathered, flatPercentile, spreadPercentile, flat64, summary, summaryOf}
+use Rattle.spec.specs.Moments.{noMoments, withValue, momentsFrom, spanOf, isFlat}
+use Rattle.spec.specs.Bins.{binsOf}
+use Rattle.spec.specs.Percentile.{flatPercentile, spreadPercentile, estimatePercentile}
+use Rattle.spec.specs.Statistics.{deviationOf, gathered, summary, summaryOf}
 use Rattle.histogram.specs.Extremes.{withExtreme, extremesFrom, meanless, withMean}
+use Rattle.histogram.proofs.Counting.{none-count}
 
 -- ---- the moments
 
@@ -30,14 +33,8 @@ extremes-moments vs = ap (λ (t : Moments). extremesFrom t vs) (sym none) ∙ fo
 -- ---- the record
 
 pub summary-meanless : (s : Moments) (vs : List Float) → summary (meanless s) vs ≡ withMean zero64 (deviationOf (meanless s)) (summary s vs)
-unfolding summary gathered flatPercentile spreadPercentile meanless withMean
-summary-meanless s vs = pick (lt (sub binary64 (s .«max_db») (s .«min_db»)) flat64)
-  where
-    pick : (t : Bool) →
-        cond t (gathered (meanless s) (flatPercentile (meanless s))) (gathered (meanless s) (spreadPercentile (meanless s) (sub binary64 (s .«max_db») (s .«min_db»)) vs))
-        ≡ withMean zero64 (deviationOf (meanless s)) (cond t (gathered s (flatPercentile s)) (gathered s (spreadPercentile s (sub binary64 (s .«max_db») (s .«min_db»)) vs)))
-    pick true = refl
-    pick false = refl
+unfolding summary gathered estimatePercentile flatPercentile spreadPercentile binsOf isFlat spanOf meanless withMean
+summary-meanless s vs = refl
 
 -- from the extremes pass
 pub summary-extremes : (vs : List Float) → summary (extremesFrom noMoments vs) vs ≡ withMean zero64 (deviationOf (extremesFrom noMoments vs)) (summaryOf vs)
@@ -45,3 +42,18 @@ unfolding summaryOf
 summary-extremes vs =
     ap (λ (t : Moments). summary t vs) (extremes-moments vs) ∙ summary-meanless (momentsFrom noMoments vs) vs
     ∙ ap (λ (t : Moments). withMean zero64 (deviationOf t) (summary (momentsFrom noMoments vs) vs)) (sym (extremes-moments vs))
+
+-- ---- the bins
+
+bins-meanless : (s : Moments) (vs : List Float) → binsOf (meanless s) vs ≡ binsOf s vs
+unfolding binsOf isFlat spanOf meanless
+bins-meanless s vs = refl
+
+pub bins-extremes : (vs : List Float) → binsOf (extremesFrom noMoments vs) vs ≡ binsOf (momentsFrom noMoments vs) vs
+bins-extremes vs = ap (λ (t : Moments). binsOf t vs) (extremes-moments vs) ∙ bins-meanless (momentsFrom noMoments vs) vs
+
+-- ---- the count
+
+pub extremes-count : (vs : List Float) → extremesFrom noMoments vs .count ≡ length vs
+unfolding meanless
+extremes-count vs = ap (λ (t : Moments). t .count) (extremes-moments vs) ∙ none-count vs

@@ -5,7 +5,7 @@ use Prim.Native.Nat.{ℕ, _+_, _^_, _≤_, _<_, min, suc-le-suc}
 use native.Mathlib.Nat.{le-of-lt, min-eq-left, min-eq-right, min-le-right}
 use native.Mathlib.Omega.{arith}
 use lib.Dec.{T}
-use lib.ListN.{length, getD, drop, replicate}
+use lib.ListN.{length, getD, drop, replicate, length-replicate}
 use lib.Ieee.{Float, nan, binary64, mul, sub, le, ofBits, toUnsigned}
 use Rattle.spec.specs.Floats.{zero64, one64, clampFloat}
 use Rattle.spec.specs.Bins.{bins64, binOf}
@@ -82,5 +82,5 @@ module _ (f : Float → ℕ) (h : List ℕ) (m : List ℕ) (d : List Float) (i :
 
 -- ---- empty bins
 
-pub empty-room : (n : ℕ) → n < 2 ^ 32 → (k : ℕ) → getD (replicate 4096 0) k 0 + n < 2 ^ 32
-empty-room n h k = omega (arith, zeros-at 4096 k)
+pub room-of : (hist : List ℕ) (n : ℕ) → hist ≡ replicate 4096 0 → n < 2 ^ 32 → (length hist ≡ 4096) × ((k : ℕ) → getD hist k 0 + n < 2 ^ 32)
+room-of hist n e h = (ap length e ∙ length-replicate {A = ℕ} 4096 0, λ k. omega (arith, ap (λ (l : List ℕ). getD l k 0) e, zeros-at 4096 k))

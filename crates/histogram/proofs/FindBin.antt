@@ -1,4 +1,4 @@
--- The target of a fraction, and one turn of the walk over the bins. Assumes nothing.
+-- The target of a fraction, one turn of the walk over the bins, and the percentile of what it finds. Assumes nothing.
 use mathlib.Core.Path.{_≡_, refl, sym, ap, _∙_}
 use mathlib.Core.Bool.{Bool, true, false, cond}
 use mathlib.Core.List.{List, [], _∷_}
@@ -12,8 +12,11 @@ use lib.ListN.{length, getD, drop, length-drop}
 use lib.Seq.{drop-cons, drop-length}
 use lib.Ieee.{Float, binary64, mul, toUnsigned}
 use Rattle.types.specs.declared.BinRank.{BinRank}
+use Rattle.types.specs.declared.Moments.{Moments}
+use Rattle.types.specs.declared.Percentile.{Percentile}
 use Rattle.spec.specs.Floats.{ofCount}
-use Rattle.spec.specs.Percentile.{targetOf, findBin}
+use Rattle.spec.specs.Moments.{isFlat}
+use Rattle.spec.specs.Percentile.{targetOf, findBin, flatPercentile, spreadPercentile, estimatePercentile}
 
 -- ---- the target
 
@@ -94,3 +97,15 @@ findBin-rank-most t before b (h ∷ h′ ∷ hs) = go (ltb t (before + h)) (find
     go : (u : Bool) (r : BinRank) → r .rank ≤ t → cond u (here t before b h) r .rank ≤ t
     go true r g = omega arith
     go false r g = g
+
+-- ---- the percentile, flat or not
+
+module _ (m : Moments) (hist : List ℕ) (p : Float) where
+  pub percentile-flat : isFlat m ≡ true → flatPercentile m p ≡ estimatePercentile m hist p
+  unfolding estimatePercentile
+  percentile-flat e = rw e
+
+  pub percentile-spread : isFlat m ≡ false → (t : ℕ) (found : BinRank) (r : Percentile) → t ≡ targetOf p (m .count) → found ≡ findBin t 0 0 hist → r ≡ spreadPercentile m found →
+      r ≡ estimatePercentile m hist p
+  unfolding estimatePercentile
+  percentile-spread e t found r a b c = c ∙ ap (spreadPercentile m) (b ∙ ap (λ (n : ℕ). findBin n 0 0 hist) a) ∙ rw e

@@ -4,6 +4,7 @@ use mathlib.Core.Bool.{Bool, true, false, cond}
 use mathlib.Core.List.{List, [], _∷_}
 use Prim.Native.Nat.{ℕ, zero, suc}
 use native.Mathlib.Omega.{arith}
+use lib.ListN.{length}
 use lib.Ieee.{Float}
 use Rattle.types.specs.declared.HistogramStats.{HistogramStats}
 use Rattle.types.specs.declared.Moments.{Moments}
@@ -15,6 +16,7 @@ use Rattle.spec.specs.Statistics.{summary, summaryOf, statisticsOf, computeHist
 use Rattle.raster.proofs.Bands.{first-stays, first-later, first-here, first-not-here, first-none}
 use Rattle.histogram.specs.declared.moments.FirstPass.the-variants.{Passed, BadDecibel}
 use Rattle.histogram.specs.Passes.{passed, firstPass}
+use Rattle.histogram.proofs.Counting.{none-count}
 
 -- ---- a pass, by its answer
 
@@ -34,14 +36,18 @@ pub pass-good : (px : List Pixel) (s m : Moments) → passed px s ≡ Passed m �
 unfolding passed
 pass-good px s m e = passed-good (decibelsRefused px) s m e
 
+pub first-pass-count : (px : List Pixel) (s : Moments) → firstPass px ≡ Passed s → s .count ≡ length (validOf px)
+unfolding firstPass
+first-pass-count px s e = ap (λ (t : Moments). t .count) (sym (pass-good px (momentsFrom noMoments (validOf px)) s e .1)) ∙ none-count (validOf px)
+
 -- ---- the call
 
-answer-refused : {A : Type 0} (k : ℕ) (a : A) → (k ≡ 0 → ⊥) → answer k a ≡ refused k
+pub answer-refused : {A : Type 0} (k : ℕ) (a : A) → (k ≡ 0 → ⊥) → answer k a ≡ refused k
 unfolding answer orRefused
 answer-refused zero a n = absurd (n refl)
 answer-refused (suc k) a n = refl
 
-answer-done : {A : Type 0} (k : ℕ) (a : A) → k ≡ 0 → answer k a ≡ done a
+pub answer-done : {A : Type 0} (k : ℕ) (a : A) → k ≡ 0 → answer k a ≡ done a
 unfolding answer orRefused
 answer-done k a e = rw e
 

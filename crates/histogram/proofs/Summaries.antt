@@ -1,47 +1,66 @@
--- The record from bins that were filled by storing is the summary. Assumes nothing.
-use mathlib.Core.Path.{_≡_, refl, sym, ap, _∙_}
+-- The bins of a band as they are filled, and the record from its parts. Assumes nothing.
+use mathlib.Core.Path.{_≡_, sym, ap, _∙_}
 use mathlib.Core.Bool.{true, false}
 use mathlib.Core.List.{List, [], _∷_, map}
-use Prim.Native.Nat.{ℕ}
-use lib.ListN.{replicate}
+use Prim.Native.Nat.{ℕ, _+_}
+use native.Mathlib.Nat.{add-zero, zero-add}
+use native.Mathlib.Omega.{arith}
+use lib.Dec.{lit<}
+use lib.ListN.{length, set, replicate}
 use lib.Ieee.{Float, binary64, div, ofBits}
+use Rattle.types.specs.declared.HistogramStats.{HistogramStats}
 use Rattle.types.specs.declared.Moments.{Moments}
 use Rattle.types.specs.declared.Percentile.{Percentile}
 use Rattle.spec.specs.Floats.{one64, half64}
-use Rattle.spec.specs.Bins.{binOf, histogram}
+use Rattle.spec.specs.Moments.{spanOf, isFlat}
+use Rattle.spec.specs.Bins.{binOf, histogram, binsOf}
 use Rattle.spec.specs.Lists.{stored}
-use Rattle.spec.specs.Statistics.{deviationOf, gathered, flatPercentile, spreadPercentile, summary}
+use Rattle.spec.specs.Percentile.{estimatePercentile}
+use Rattle.spec.specs.Statistics.{deviationOf, gathered, summary}
 use Rattle.lists.proofs.Counts.{Below, stored-counts}
-use Rattle.histogram.specs.Summary.{spanOf, isFlat, spreadStats, statsFromBins}
 use Rattle.histogram.proofs.Filling.{bin-most}
 
 pub bins-below : (least inv : Float) (vs : List Float) → Below 4096 (map (binOf least inv) vs)
 bins-below least inv [] = tt
 bins-below least inv (v ∷ vs) = (bin-most least inv v, bins-below least inv vs)
 
-module _ (s : Moments) where
-  pub from-flat : (hist : List ℕ) → isFlat s ≡ true → gathered s (flatPercentile s) ≡ statsFromBins s hist
-  unfolding statsFromBins
-  from-flat hist e = rw e
+-- ---- a flat scene has all values in bin 0
 
-  pub from-spread : (hist : List ℕ) → isFlat s ≡ false → spreadStats s hist ≡ statsFromBins s hist
-  unfolding statsFromBins
-  from-spread hist e = rw e
+pub zeros-below : (vs : List Float) → Below 4096 (map (λ v. 0) vs)
+zeros-below [] = tt
+zeros-below (v ∷ vs) = (lit< tt, zeros-below vs)
 
-  pub summary-flat : (vs : List Float) → isFlat s ≡ true → gathered s (flatPercentile s) ≡ summary s vs
-  unfolding summary isFlat spanOf
-  summary-flat vs e = rw e
+stored-zeros : (h : ℕ) (hs : List ℕ) (vs : List Float) → stored (h ∷ hs) (map (λ v. 0) vs) ≡ (h + length vs) ∷ hs
+unfolding stored
+stored-zeros h hs [] = ap (λ (n : ℕ). n ∷ hs) (sym (add-zero h))
+stored-zeros h hs (v ∷ vs) =
+    stored-zeros (h + 1) hs vs
+    ∙ ap (λ (n : ℕ). n ∷ hs)
+    (let e : h + 1 + length vs ≡ h + length (v ∷ vs) = omega arith in
+    e)
 
-  -- the summary reads the values by their bins alone
-  pub summary-bins : (vs : List Float) → summary s vs ≡ statsFromBins s (histogram (map (binOf (s .«min_db») (div binary64 one64 (spanOf s))) vs))
-  unfolding summary statsFromBins spreadStats isFlat spanOf spreadPercentile
-  summary-bins vs = refl
+zeros-counts : (vs : List Float) → set (replicate 4096 0) 0 (length vs) ≡ histogram (map (λ v. 0) vs)
+unfolding histogram
+zeros-counts vs =
+    ap (λ (n : ℕ). n ∷ replicate 4095 0) (sym (zero-add (length vs))) ∙ sym (stored-zeros 0 (replicate 4095 0) vs)
+    ∙ stored-counts 4096 (map (λ v. 0) vs) (zeros-below vs)
 
-  pub summary-filled : (vs : List Float) (hist : List ℕ) → hist ≡ stored (replicate 4096 0) (map (binOf (s .«min_db») (div binary64 one64 (spanOf s))) vs) → statsFromBins s hist ≡ summary s vs
-  unfolding histogram
-  summary-filled vs hist e =
-      ap (statsFromBins s) (e ∙ stored-counts 4096 (map (binOf (s .«min_db») (div binary64 one64 (spanOf s))) vs) (bins-below (s .«min_db») (div binary64 one64 (spanOf s)) vs))
-      ∙ sym (summary-bins vs)
+-- ---- the bins of a band, as they are filled
+
+module _ (s : Moments) (vs : List Float) where
+  pub flat-filled : isFlat s ≡ true → (hist : List ℕ) → hist ≡ replicate 4096 0 → (n : ℕ) → n ≡ length vs → set hist 0 n ≡ binsOf s vs
+  unfolding binsOf
+  flat-filled e hist h n c = rw (h, c, e) (zeros-counts vs)
+
+  pub spread-filled : isFlat s ≡ false → (hist new : List ℕ) → hist ≡ replicate 4096 0 → new ≡ stored hist (map (binOf (s .«min_db») (div binary64 one64 (spanOf s))) vs) → new ≡ binsOf s vs
+  unfolding binsOf histogram
+  spread-filled e hist new h f =
+      f ∙ ap (λ (l : List ℕ). stored l (map (binOf (s .«min_db») (div binary64 one64 (spanOf s))) vs)) h
+      ∙ stored-counts 4096 (map (binOf (s .«min_db») (div binary64 one64 (spanOf s))) vs) (bins-below (s .«min_db») (div binary64 one64 (spanOf s)) vs) ∙ rw e
+
+  pub summary-counted : (hist : List ℕ) (r : HistogramStats) → hist ≡ binsOf s vs → r ≡ gathered s (estimatePercentile s hist) → r ≡ summary s vs
+  unfolding summary
+  summary-counted hist r h e = e ∙ ap (λ (l : List ℕ). gathered s (estimatePercentile s l)) h
 
 -- the record, from a deviation and eleven percentiles
 pub gathered-parts : (s : Moments) (p : Float → Percentile) (deviation : Float) (median p01 p02 p05 p10 p25 p75 p90 p95 p98 p99 : Percentile) → deviation ≡ deviationOf s →
@@ -63,6 +82,8 @@ pub gathered-parts : (s : Moments) (p : Float → Percentile) (deviation : Float
       p95 = p95 .value;
       p98 = p98 .value;
       p99 = p99 .value;
+      «p05_bin» = p05 .bin;
+      «p95_bin» = p95 .bin;
     }
     ≡ gathered s p
 unfolding gathered

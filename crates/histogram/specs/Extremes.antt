@@ -48,4 +48,6 @@ withMean mean deviation s =
       p95 = s .p95;
       p98 = s .p98;
       p99 = s .p99;
+      «p05_bin» = s .«p05_bin»;
+      «p95_bin» = s .«p95_bin»;
     }

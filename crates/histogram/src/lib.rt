@@ -1,12 +1,18 @@
-// The statistics of a band: pass one, the bins, the percentiles, the record, and the statistics call.
+// The statistics of a band: pass one, the bins, the percentiles, the record, and the calls for statistics and for the bins.
 ghost use mathlib.Core.Path.{_≡_};
+ghost use mathlib.Core.Bool.{_||_};
+ghost use mathlib.Core.List.{_∷_, []};
 ghost use Prim.Native.Nat.{_<_, _^_};
 ghost use lib.ListN.{length};
+ghost use Rattle.spec.specs.Answer.{number, replyNumber, firstOf, after};
+ghost use Rattle.spec.specs.Curve.{computeHistogram};
 ghost use Rattle.spec.specs.Pixels.{pixels, validOf};
-ghost use Rattle.spec.specs.Statistics.{deviationOf, gathered, flatPercentile, summary, computeHistogramStats, readStatistics};
-ghost use Rattle.histogram.specs.Summary.{isFlat, spreadStats, statsFromBins};
+ghost use Rattle.spec.specs.Refusals.{sidesRefused, lengthsRefused, unlike, marksRefused};
+ghost use Rattle.spec.specs.Percentile.{estimatePercentile};
+ghost use Rattle.spec.specs.Statistics.{deviationOf, gathered, summary, computeHistogramStats, readStatistics};
 use types::HistogramStats;
 use types::Moments;
+use types::Reply;
 use types::StatisticsAnswer;
 
 mod bins;
@@ -23,61 +29,27 @@ fn deviation_of(m: Moments) -> f64
     0.0
 }
 
-// "max - min < 2^-52".
-fn is_flat(m: Moments) -> bool
-    ensures { λ r. ⌜ r ≡ isFlat m ⌝ }
-{
-    m.max_db - m.min_db < 2.220446049250313e-16
-}
-
-// The record of a flat scene: "median, p01 to p25 are min; p75 to p99 are max".
-fn flat_stats(m: Moments) -> HistogramStats
-    ensures { λ r. ⌜ r ≡ gathered m (flatPercentile m) ⌝ }
-{
-    HistogramStats {
-        valid_count: m.count as usize,
-        min_db: m.min_db,
-        max_db: m.max_db,
-        mean_db: m.mean,
-        std_db: deviation_of(m),
-        median_db: m.min_db,
-        p01: m.min_db,
-        p02: m.min_db,
-        p05: m.min_db,
-        p10: m.min_db,
-        p25: m.min_db,
-        p75: m.max_db,
-        p90: m.max_db,
-        p95: m.max_db,
-        p98: m.max_db,
-        p99: m.max_db,
-    }
-}
-
-// The record of any other scene, its percentiles from the bins.
-fn spread_stats(m: Moments, hist: &[u32]) -> HistogramStats
+// The record from moments and bins.
+fn stats_from_bins(m: Moments, hist: &[u32]) -> HistogramStats
     requires { ⌜ length (now hist) ≡ 4096 ⌝ }
-    ensures { λ r. ⌜ r ≡ spreadStats m (now (hist .entry)) ⌝ }
+    ensures { λ r. ⌜ r ≡ gathered m (estimatePercentile m (now (hist .entry))) ⌝ }
 {
-    let count = m.count;
-    let valid_count = count as usize;
-    let min_db = m.min_db;
-    let bin_width = (m.max_db - min_db) / 4096.0;
+    let valid_count = m.count as usize;
     let std_db = deviation_of(m);
-    let median = percentile::estimate_percentile(hist, min_db, bin_width, count, 0.5);
-    let p01 = percentile::estimate_percentile(hist, min_db, bin_width, count, 0.01);
-    let p02 = percentile::estimate_percentile(hist, min_db, bin_width, count, 0.02);
-    let p05 = percentile::estimate_percentile(hist, min_db, bin_width, count, 0.05);
-    let p10 = percentile::estimate_percentile(hist, min_db, bin_width, count, 0.10);
-    let p25 = percentile::estimate_percentile(hist, min_db, bin_width, count, 0.25);
-    let p75 = percentile::estimate_percentile(hist, min_db, bin_width, count, 0.75);
-    let p90 = percentile::estimate_percentile(hist, min_db, bin_width, count, 0.90);
-    let p95 = percentile::estimate_percentile(hist, min_db, bin_width, count, 0.95);
-    let p98 = percentile::estimate_percentile(hist, min_db, bin_width, count, 0.98);
-    let p99 = percentile::estimate_percentile(hist, min_db, bin_width, count, 0.99);
+    let median = percentile::estimate_percentile(m, hist, 0.5);
+    let p01 = percentile::estimate_percentile(m, hist, 0.01);
+    let p02 = percentile::estimate_percentile(m, hist, 0.02);
+    let p05 = percentile::estimate_percentile(m, hist, 0.05);
+    let p10 = percentile::estimate_percentile(m, hist, 0.10);
+    let p25 = percentile::estimate_percentile(m, hist, 0.25);
+    let p75 = percentile::estimate_percentile(m, hist, 0.75);
+    let p90 = percentile::estimate_percentile(m, hist, 0.90);
+    let p95 = percentile::estimate_percentile(m, hist, 0.95);
+    let p98 = percentile::estimate_percentile(m, hist, 0.98);
+    let p99 = percentile::estimate_percentile(m, hist, 0.99);
     HistogramStats {
         valid_count: valid_count,
-        min_db: min_db,
+        min_db: m.min_db,
         max_db: m.max_db,
         mean_db: m.mean,
         std_db: std_db,
@@ -92,31 +64,18 @@ fn spread_stats(m: Moments, hist: &[u32]) -> HistogramStats
         p95: p95.value,
         p98: p98.value,
         p99: p99.value,
+        p05_bin: p05.bin,
+        p95_bin: p95.bin,
     }
-}
-
-// The record from moments and bins.
-fn stats_from_bins(m: Moments, hist: &[u32]) -> HistogramStats
-    requires { ⌜ length (now hist) ≡ 4096 ⌝ }
-    ensures { λ r. ⌜ r ≡ statsFromBins m (now (hist .entry)) ⌝ }
-{
-    if is_flat(m) {
-        return flat_stats(m);
-    }
-    spread_stats(m, hist)
 }
 
 // The record of a band whose moments are known; nothing is refused here.
 pub fn summary(db: &[f64], valid_mask: &[u8], m: Moments) -> HistogramStats
-    requires { ⌜ (length (now «valid_mask») ≡ length (now db)) × (length (now db) < 2 ^ 32) ⌝ }
+    requires { ⌜ (length (now «valid_mask») ≡ length (now db)) × (length (now db) < 2 ^ 32) × (m .count ≡ length (validOf (pixels (now «valid_mask») (now db)))) ⌝ }
     ensures { λ r. ⌜ r ≡ summary m (validOf (pixels (now («valid_mask» .entry)) (now (db .entry)))) ⌝ }
 {
-    if is_flat(m) {
-        return flat_stats(m);
-    }
     let mut hist: [u32; 4096] = [0; 4096];
-    let inv_span = 1.0 / (m.max_db - m.min_db);
-    bins::fill_bins(db, valid_mask, m.min_db, inv_span, &mut hist);
+    bins::count_bins(db, valid_mask, m, &mut hist);
     stats_from_bins(m, &hist)
 }
 
@@ -137,4 +96,48 @@ pub fn compute_histogram_stats(
         return StatisticsAnswer::Refused(4);
     };
     StatisticsAnswer::Statistics(summary(db, valid_mask, m))
+}
+
+// The smallest of the numbers 1 to 3 that applies to the call for the bins, 0 if none does.
+fn bins_refusal(rows: usize, cols: usize, db: &[f64], valid_mask: &[u8], out: usize) -> u8
+    ensures { λ r. ⌜ r ≡ firstOf 1 (
+        sidesRefused rows cols ∷ (lengthsRefused rows cols (now («valid_mask» .entry)) (now (db .entry)) || unlike out 4096)
+        ∷ marksRefused (now («valid_mask» .entry)) ∷ []) ⌝ }
+{
+    if raster::sides_refused(rows, cols) {
+        return 1;
+    }
+    if raster::lengths_refused(rows, cols, db, valid_mask) {
+        return 2;
+    }
+    if out != 4096 {
+        return 2;
+    }
+    if raster::marks_refused(valid_mask) {
+        return 3;
+    }
+    0
+}
+
+// The call for the bins, 4,096 counts of the valid dB between the least and the greatest: refusals 1 to 4, then the counts.
+pub fn compute_histogram(
+    rows: usize,
+    cols: usize,
+    db: &[f64],
+    valid_mask: &[u8],
+    hist: &mut [u32],
+) -> Reply
+    ensures { λ r. ⌜ replyNumber r ≡ number (computeHistogram rows cols (now («valid_mask» .entry)) (now (db .entry)) (length (now (hist .entry)))) ⌝ }
+    ensures { λ _. ⌜ now (hist .exit) ≡ after (λ l. l) (computeHistogram rows cols (now («valid_mask» .entry)) (now (db .entry)) (length (now (hist .entry)))) (now (hist .entry)) ⌝ }
+{
+    let refusal = bins_refusal(rows, cols, db, valid_mask, hist.len());
+    if refusal != 0 {
+        return Reply::Refused(refusal);
+    }
+    let moments::FirstPass::Passed(m) = moments::extremes(db, valid_mask) else {
+        return Reply::Refused(4);
+    };
+    lists::clear_u32(hist);
+    bins::count_bins(db, valid_mask, m, hist);
+    Reply::Done
 }

@@ -4,7 +4,7 @@ ghost use Prim.Native.Nat.{_+_, _<_, _^_};
 ghost use mathlib.Core.Bool.{cond, _||_};
 ghost use lib.ListN.{length};
 ghost use lib.Ieee.{lt};
-ghost use Rattle.spec.specs.Moments.{noMoments, withValue};
+ghost use Rattle.spec.specs.Moments.{noMoments, withValue, isFlat};
 ghost use Rattle.spec.specs.Pixels.{pixels};
 ghost use Rattle.histogram.specs.Extremes.{withExtreme};
 ghost use Rattle.histogram.specs.Passes.{firstPass, extremes};
@@ -80,6 +80,13 @@ fn with_value(m: Moments, v: f64) -> Moments
         mean: mean,
         m2: m.m2 + delta * delta2,
     }
+}
+
+// "max - min < 2^-52".
+pub(crate) fn is_flat(m: Moments) -> bool
+    ensures { λ r. ⌜ r ≡ isFlat m ⌝ }
+{
+    m.max_db - m.min_db < 2.220446049250313e-16
 }
 
 // The moments of the valid dB, unless one of them is refused.

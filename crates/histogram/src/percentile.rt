@@ -2,8 +2,10 @@
 ghost use mathlib.Core.Path.{_≡_};
 ghost use Prim.Native.Nat.{_<_, _^_};
 ghost use lib.ListN.{length};
-ghost use Rattle.spec.specs.Percentile.{targetOf, findBin, valueAt, estimatePercentile};
+ghost use Rattle.spec.specs.Percentile.{targetOf, findBin, valueAt, flatPercentile, spreadPercentile, estimatePercentile};
+use super::moments;
 use types::BinRank;
+use types::Moments;
 use types::Percentile;
 
 // "target = floor(p × count), at most count - 1"; 0 for no value.
@@ -61,20 +63,47 @@ fn value_at(min_db: f64, bin_width: f64, found: BinRank) -> f64
     bin_start + frac * bin_width
 }
 
-// The percentile of fraction p from count values in the bins.
-pub(crate) fn estimate_percentile(
-    hist: &[u32],
-    min_db: f64,
-    bin_width: f64,
-    count: u32,
-    p: f64,
-) -> Percentile
-    requires { ⌜ length (now hist) ≡ 4096 ⌝ }
-    ensures { λ r. ⌜ r ≡ estimatePercentile «min_db» «bin_width» count (now (hist .entry)) p ⌝ }
+// "median, p01 to p25 are min; p75 to p99 are max", in bin 0 at rank 0.
+fn flat_percentile(m: Moments, p: f64) -> Percentile
+    ensures { λ r. ⌜ r ≡ flatPercentile m p ⌝ }
 {
-    let target = target_of(p, count);
-    let found = find_bin(hist, target);
+    if p > 0.5 {
+        return Percentile {
+            value: m.max_db,
+            bin: 0,
+            rank: 0,
+        };
+    }
+    Percentile {
+        value: m.min_db,
+        bin: 0,
+        rank: 0,
+    }
+}
+
+// What was found in the bins, and its value.
+fn spread_percentile(m: Moments, found: BinRank) -> Percentile
+    requires { ⌜ (found .bin < 2 ^ 32) × (found .rank < 2 ^ 32) ⌝ }
+    ensures { λ r. ⌜ r ≡ spreadPercentile m found ⌝ }
+{
+    let min_db = m.min_db;
+    let bin_width = (m.max_db - min_db) / 4096.0;
     Percentile {
         value: value_at(min_db, bin_width, found),
+        bin: found.bin,
+        rank: found.rank,
     }
+}
+
+// The percentile of fraction p of values with these moments and bins.
+pub(crate) fn estimate_percentile(m: Moments, hist: &[u32], p: f64) -> Percentile
+    requires { ⌜ length (now hist) ≡ 4096 ⌝ }
+    ensures { λ r. ⌜ r ≡ estimatePercentile m (now (hist .entry)) p ⌝ }
+{
+    if moments::is_flat(m) {
+        return flat_percentile(m, p);
+    }
+    let target = target_of(p, m.count);
+    let found = find_bin(hist, target);
+    spread_percentile(m, found)
 }

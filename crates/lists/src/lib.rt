@@ -23,3 +23,14 @@ pub fn clear_u16(values: &mut [u16])
         i += 1;
     }
 }
+
+// Zeros at 32 bits.
+pub fn clear_u32(counts: &mut [u32])
+    ensures { λ _. ⌜ now (counts .exit) ≡ replicate (length (now (counts .entry))) 0 ⌝ }
+{
+    let mut i = 0;
+    while i < counts.len() {
+        counts[i] = 0;
+        i += 1;
+    }
+}

@@ -15,6 +15,16 @@ module _ {A B : Type 0} (f : A → List B) (a : Answer A) (old : List B) where
   pub same-list : (b : Answer A) (n k : ℕ) (new : List B) → a ≡ b → n ≡ k → k ≡ number b → new ≡ after f b old → (n ≡ number a) × (new ≡ after f a old)
   same-list b n k new e r m v = rw e (r ∙ m, v)
 
+-- two lent lists
+module _ {A B C : Type 0} (f : A → List B) (g : A → List C) (a : Answer A) (old1 : List B) (old2 : List C) where
+  pub refused-two : (k : ℕ) → a ≡ refused k → (k ≡ number a) × ((old1 ≡ after f a old1) × (old2 ≡ after g a old2))
+  unfolding number after
+  refused-two k e = rw e (refl, (refl, refl))
+
+  pub done-two : (x : A) (new1 : List B) (new2 : List C) → a ≡ done x → (new1 ≡ f x) × (new2 ≡ g x) → (0 ≡ number a) × ((new1 ≡ after f a old1) × (new2 ≡ after g a old2))
+  unfolding number after
+  done-two x new1 new2 e d = rw e (refl, d)
+
 -- and what else a call owes
 pub beside : {P Q W : Type 0} → P × Q → W → P × (Q × W)
 beside p w = (p .0, (p .1, w))

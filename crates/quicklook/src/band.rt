@@ -1,20 +1,28 @@
-// The calls on one band that answer numbers: its statistics and its window.
+// The calls on one band that answer numbers: its statistics, its curve and its window.
 ghost use mathlib.Core.Path.{_≡_};
+ghost use lib.ListN.{length};
 ghost use Rattle.spec.specs.Answer.{number, after};
+ghost use Rattle.spec.specs.Curve.{computeHistogram};
 ghost use Rattle.spec.specs.Statistics as Statistics;
 ghost use Rattle.spec.specs.Window as Window;
 ghost use Rattle.quicklook.specs.Calls as Calls;
-ghost use Rattle.quicklook.specs.Numbers.{kept, countOf, floatsOf, blankOf, floatsOfWindow};
+ghost use Rattle.quicklook.specs.Numbers.{kept, wholeOf, floatsOf, blankOf, floatsOfWindow};
 use super::codes;
+use super::replies;
 use types::AutoscaleStrategy;
 use types::HistogramStats;
 use types::StatisticsAnswer;
 use types::WindowAnswer;
 
-// The record's floats, in its order.
-fn put_statistics(stats: HistogramStats, floats: &mut [f64; 15])
-    ensures { λ _. ⌜ now (floats .exit) ≡ floatsOf stats ⌝ }
+// The record's whole numbers and its floats, in its order.
+fn put_statistics(stats: HistogramStats, whole: &mut [u64; 3], floats: &mut [f64; 15])
+    ensures { λ _. ⌜ (now (whole .exit) ≡ wholeOf stats) × (now (floats .exit) ≡ floatsOf stats) ⌝ }
 {
+    *whole = [
+        stats.valid_count as u64,
+        stats.p05_bin as u64,
+        stats.p95_bin as u64,
+    ];
     *floats = [
         stats.min_db,
         stats.max_db,
@@ -34,28 +42,42 @@ fn put_statistics(stats: HistogramStats, floats: &mut [f64; 15])
     ];
 }
 
-// The count and the fifteen floats of a band.
+// The count, the bins of p05 and p95, and the fifteen floats of a band.
 #[no_mangle]
 pub extern "C" fn quicklook_statistics(
     rows: usize,
     cols: usize,
     db: &[f64],
     valid_mask: &[u8],
-    valid_count: &mut u64,
+    whole: &mut [u64; 3],
     floats: &mut [f64; 15],
 ) -> u8
     ensures reply { λ r. ⌜ r ≡ number (Statistics.computeHistogramStats rows cols (now («valid_mask» .entry)) (now (db .entry))) ⌝ }
-    ensures count { λ _. ⌜ now («valid_count» .exit) ≡ kept countOf (Statistics.computeHistogramStats rows cols (now («valid_mask» .entry)) (now (db .entry))) (now («valid_count» .entry)) ⌝ }
+    ensures whole { λ _. ⌜ now (whole .exit) ≡ after wholeOf (Statistics.computeHistogramStats rows cols (now («valid_mask» .entry)) (now (db .entry))) (now (whole .entry)) ⌝ }
     ensures floats { λ _. ⌜ now (floats .exit) ≡ after floatsOf (Statistics.computeHistogramStats rows cols (now («valid_mask» .entry)) (now (db .entry))) (now (floats .entry)) ⌝ }
 {
     match histogram::compute_histogram_stats(rows, cols, db, valid_mask) {
         StatisticsAnswer::Statistics(stats) => {
-            *valid_count = stats.valid_count as u64;
-            put_statistics(stats, floats);
+            put_statistics(stats, whole, floats);
             0
         }
         StatisticsAnswer::Refused(k) => k,
     }
+}
+
+// The counts of a band's valid dB in 4,096 bins.
+#[no_mangle]
+pub extern "C" fn quicklook_histogram(
+    rows: usize,
+    cols: usize,
+    db: &[f64],
+    valid_mask: &[u8],
+    counts: &mut [u32],
+) -> u8
+    ensures reply { λ r. ⌜ r ≡ number (computeHistogram rows cols (now («valid_mask» .entry)) (now (db .entry)) (length (now (counts .entry)))) ⌝ }
+    ensures counts { λ _. ⌜ now (counts .exit) ≡ after (λ l. l) (computeHistogram rows cols (now («valid_mask» .entry)) (now (db .entry)) (length (now (counts .entry)))) (now (counts .entry)) ⌝ }
+{
+    replies::reply_number(histogram::compute_histogram(rows, cols, db, valid_mask, counts))
 }
 
 // A window's floats, or blank and zeros.

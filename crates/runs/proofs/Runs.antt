@@ -19,6 +19,7 @@ use Rattle.spec.specs.Grey.{autoscaleDbImageToU8, autoscaleDbImageToU16}
 use Rattle.spec.specs.Picture.{Picture, syntheticRgbPicture}
 use Rattle.spec.specs.Places.{moved}
 use Rattle.spec.specs.Statistics.{readStatistics}
+use Rattle.spec.specs.Curve.{computeHistogram}
 use Rattle.spec.specs.Window.{readWindow}
 use Rattle.demands.specs.GreyOrder.{OutsideClahe, Ranked}
 use Rattle.demands.specs.Reordering.{Reorders, AreF64, movedTriples, MovedBy, same-refusal, both-done}
@@ -48,6 +49,15 @@ read-window-same Blank (Refused k) e = cc
 read-window-same (Refused k) (Window l′ h′ r′ g′) e = cc
 read-window-same (Refused k) Blank e = cc
 read-window-same (Refused k) (Refused l) e = cc
+
+-- ---- two runs of the call for the bins, likewise
+
+pub same-counts : (rows cols : ℕ) (m : List ℕ) (d d′ : List Float) → Altered m d d′ → (old old′ new new′ : List ℕ) (r r′ : ℕ) → old ≡ old′ →
+    (r ≡ number (computeHistogram rows cols m d (length old))) × (new ≡ after (λ l. l) (computeHistogram rows cols m d (length old)) old) →
+    (r′ ≡ number (computeHistogram rows cols m d′ (length old′))) × (new′ ≡ after (λ l. l) (computeHistogram rows cols m d′ (length old′)) old′) → (r ≡ r′) × (new ≡ new′)
+same-counts rows cols m d d′ a old old′ new new′ r r′ o e e′ =
+    let s : computeHistogram rows cols m d (length old) ≡ computeHistogram rows cols m d′ (length old′) = cc (alteration .histogram rows cols m d d′ (length old) a) in
+    (cc, cc)
 
 -- ---- two runs of a grey call, `call`, with equal answers: equal replies and equal lists. The second run's work list is as long as the first's.
 

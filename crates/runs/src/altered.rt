@@ -35,6 +35,24 @@ fn altered_statistics(
     StatisticsAnswers { first, second }
 }
 
+// The call for the bins: from equal lists the same reply and the same list.
+fn altered_histogram(
+    sides: Sides,
+    db: &[f64],
+    db_altered: &[f64],
+    valid_mask: &[u8],
+    hist: &mut [u32],
+    hist_altered: &mut [u32],
+) -> Replies
+    ensures counts { λ r. ⌜ (Altered (now («valid_mask» .entry)) (now (db .entry)) (now («db_altered» .entry)) → now (hist .entry) ≡ now («hist_altered» .entry) → (replyNumber (r .first) ≡ replyNumber (r .second)) × (now (hist .exit) ≡ now («hist_altered» .exit))) ⌝ }
+{
+    let rows = sides.rows;
+    let cols = sides.cols;
+    let first = histogram::compute_histogram(rows, cols, db, valid_mask, hist);
+    let second = histogram::compute_histogram(rows, cols, db_altered, valid_mask, hist_altered);
+    Replies { first, second }
+}
+
 // The window call: the same refusal, blank, or the same floats.
 fn altered_window(
     sides: Sides,

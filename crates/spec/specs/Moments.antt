@@ -1,9 +1,9 @@
 -- "Pass one: min, max and Welford mean and m2 in raster order". Definitions only.
 use Prim.Native.Nat.{_+_}
-use mathlib.Core.Bool.{cond, _||_}
+use mathlib.Core.Bool.{Bool, cond, _||_}
 use mathlib.Core.List.{List, [], _∷_}
 use lib.Dec.{eqb}
-use lib.Ieee.{Float, binary64, add, sub, mul, div, lt}
+use lib.Ieee.{Float, binary64, add, sub, mul, div, lt, ofBits}
 use Rattle.types.specs.declared.Moments.{Moments}
 use Rattle.spec.specs.Floats.{zero64, ofCount}
 
@@ -30,3 +30,14 @@ withValue s v =
 unfoldable pub momentsFrom : Moments → List Float → Moments
 momentsFrom s [] = s
 momentsFrom s (v ∷ vs) = momentsFrom (withValue s v) vs
+
+unfoldable pub spanOf : Moments → Float
+spanOf s = sub binary64 (s .«max_db») (s .«min_db»)
+
+-- 2^-52
+abbrev pub flat64 : Float
+flat64 = ofBits binary64 0x3cb0_0000_0000_0000
+
+-- "max - min < 2^-52". The moments of no value are zeros, and flat.
+unfoldable pub isFlat : Moments → Bool
+isFlat s = lt (spanOf s) flat64

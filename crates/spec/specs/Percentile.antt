@@ -3,10 +3,13 @@ use Prim.Native.Nat.{ℕ, suc, _+_, _-_, min}
 use mathlib.Core.Bool.{cond}
 use mathlib.Core.List.{List, [], _∷_}
 use lib.Dec.{ltb}
-use lib.Ieee.{Float, binary64, add, mul, div, toUnsigned}
+use lib.Ieee.{Float, binary64, add, mul, div, lt, toUnsigned}
 use Rattle.types.specs.declared.BinRank.{BinRank}
+use Rattle.types.specs.declared.Moments.{Moments}
 use Rattle.types.specs.declared.Percentile.{Percentile}
-use Rattle.spec.specs.Floats.{ofCount}
+use Rattle.spec.specs.Floats.{half64, ofCount}
+use Rattle.spec.specs.Moments.{spanOf, isFlat}
+use Rattle.spec.specs.Bins.{bins64}
 
 -- "target = floor(p × count), at most count - 1"
 unfoldable pub targetOf : Float → ℕ → ℕ
@@ -27,5 +30,14 @@ unfoldable pub valueAt : Float → Float → BinRank → Float
 valueAt least width r =
     add binary64 (add binary64 least (mul binary64 (ofCount (r .bin)) width)) (mul binary64 (div binary64 (ofCount (r .rank)) (ofCount (r .size))) width)
 
-unfoldable pub estimatePercentile : Float → Float → ℕ → List ℕ → Float → Percentile
-estimatePercentile least width count hist p = record { value = valueAt least width (findBin (targetOf p count) 0 0 hist) }
+-- "median, p01 to p25 are min; p75 to p99 are max". Document 02, F-6: "0 and 0 for flat scenes and blank bands"
+unfoldable pub flatPercentile : Moments → Float → Percentile
+flatPercentile s p = record { value = cond (lt half64 p) (s .«max_db») (s .«min_db»); bin = 0; rank = 0 }
+
+-- "width = span/4096". F-6: "The percentile answer gains its bin and its rank within the bin (document 01's w)"
+unfoldable pub spreadPercentile : Moments → BinRank → Percentile
+spreadPercentile s r = record { value = valueAt (s .«min_db») (div binary64 (spanOf s) bins64) r; bin = r .bin; rank = r .rank }
+
+-- of values with these moments and these counts of the bins: "If max - min < 2^-52: .. Else .."
+unfoldable pub estimatePercentile : Moments → List ℕ → Float → Percentile
+estimatePercentile s hist p = cond (isFlat s) (flatPercentile s p) (spreadPercentile s (findBin (targetOf p (s .count)) 0 0 hist))

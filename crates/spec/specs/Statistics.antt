@@ -1,21 +1,21 @@
--- "The statistics are one record of a count and fifteen floats." Definitions only.
+-- "The statistics are one record of a count and fifteen floats"; document 02, F-6: it "carries the bins of p05 and p95". Definitions only.
 use Prim.Native.Nat.{ℕ}
 use mathlib.Core.Bool.{cond}
-use mathlib.Core.List.{List, [], _∷_, map}
+use mathlib.Core.List.{List, [], _∷_}
 use lib.Dec.{ltb}
-use lib.Ieee.{Float, binary64, sub, div, lt, ofBits}
+use lib.Ieee.{Float, binary64, div, ofBits}
 use Rattle.types.specs.declared.HistogramStats.{HistogramStats}
 use Rattle.types.specs.declared.Moments.{Moments}
 use Rattle.types.specs.declared.Percentile.{Percentile}
 use Rattle.types.specs.declared.StatisticsAnswer.{StatisticsAnswer}
 use Rattle.types.specs.declared.StatisticsAnswer.the-variants.{Statistics, Refused}
-use Rattle.spec.specs.Floats.{zero64, half64, one64, ofCount}
+use Rattle.spec.specs.Floats.{zero64, half64, ofCount}
 use Rattle.spec.specs.Root.{sqrtFloat}
 use Rattle.spec.specs.Answer.{Answer, refused, done, firstOf, answer}
 use Rattle.spec.specs.Pixels.{Pixel, pixels, validOf}
 use Rattle.spec.specs.Refusals.{sidesRefused, lengthsRefused, marksRefused, decibelsRefused}
 use Rattle.spec.specs.Moments.{noMoments, momentsFrom}
-use Rattle.spec.specs.Bins.{bins64, binOf, histogram}
+use Rattle.spec.specs.Bins.{binsOf}
 use Rattle.spec.specs.Percentile.{estimatePercentile}
 
 -- "deviation = root of m2/count, 0 for count 1"
@@ -42,28 +42,13 @@ gathered s p =
       p95 = p (ofBits binary64 0x3fee_6666_6666_6666) .value;
       p98 = p (ofBits binary64 0x3fef_5c28_f5c2_8f5c) .value;
       p99 = p (ofBits binary64 0x3fef_ae14_7ae1_47ae) .value;
+      «p05_bin» = p (ofBits binary64 0x3fa9_9999_9999_999a) .bin;
+      «p95_bin» = p (ofBits binary64 0x3fee_6666_6666_6666) .bin;
     }
 
--- "median, p01 to p25 are min; p75 to p99 are max"
-unfoldable pub flatPercentile : Moments → Float → Percentile
-flatPercentile s p = record { value = cond (lt half64 p) (s .«max_db») (s .«min_db») }
-
--- 2^-52
-abbrev pub flat64 : Float
-flat64 = ofBits binary64 0x3cb0_0000_0000_0000
-
--- "inv = 1/span", the bins of the values, "width = span/4096"
-unfoldable pub spreadPercentile : Moments → Float → List Float → Float → Percentile
-spreadPercentile s span vs =
-    estimatePercentile (s .«min_db») (div binary64 span bins64) (s .count) (histogram (map (binOf (s .«min_db») (div binary64 one64 span)) vs))
-
--- "If max - min < 2^-52: .. no histogram. Else .."
+-- of values with these moments
 unfoldable pub summary : Moments → List Float → HistogramStats
-summary s vs =
-    let span = sub binary64 (s .«max_db») (s .«min_db») in
-    let flat = gathered s (flatPercentile s) in
-    let spread = gathered s (spreadPercentile s span vs) in
-    cond (lt span flat64) flat spread
+summary s vs = gathered s (estimatePercentile s (binsOf s vs))
 
 -- of the valid dB. "With no valid pixel the count and all floats are 0": the moments of no value are zeros, and flat.
 unfoldable pub summaryOf : List Float → HistogramStats

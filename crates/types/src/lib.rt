@@ -31,7 +31,7 @@ pub enum Reply {
     Refused(u8),
 }
 
-// "The statistics are one record of a count and fifteen floats", with the Rust's field names.
+// "The statistics are one record of a count and fifteen floats", with the Rust's field names; "carries the bins of p05 and p95".
 pub struct HistogramStats {
     pub valid_count: usize,
     pub min_db: f64,
@@ -49,6 +49,8 @@ pub struct HistogramStats {
     pub p95: f64,
     pub p98: f64,
     pub p99: f64,
+    pub p05_bin: usize,
+    pub p95_bin: usize,
 }
 
 pub enum StatisticsAnswer {
@@ -106,8 +108,11 @@ pub struct BinRank {
     pub rank: u64,
 }
 
+// A value, "its bin and its rank within the bin".
 pub struct Percentile {
     pub value: f64,
+    pub bin: usize,
+    pub rank: u64,
 }
 
 // What a strategy decides: the Rust's (low_clip, high_clip, gamma).

@@ -130,6 +130,9 @@ impl PolarizationOperation {
 
 pub const CLAHE_WORK: usize = 16_384;
 
+/// The bins of a band's curve.
+pub const BINS: usize = 4096;
+
 /// The longest side of a raster, and the longest list of the calls without sides.
 pub const LONGEST_SIDE: usize = 4096;
 pub const LONGEST: usize = 16_777_216;
@@ -153,19 +156,26 @@ pub struct Statistics {
     pub p95: f64,
     pub p98: f64,
     pub p99: f64,
+    /// The bins of p05 and p95 on the curve that `histogram` gives.
+    pub p05_bin: u64,
+    pub p95_bin: u64,
 }
 
 impl Statistics {
-    /// From the floats as the call writes them.
-    fn from_lent(valid_count: u64, floats: [f64; 15]) -> Self {
+    /// From the whole numbers and the floats as the call writes them.
+    fn from_lent(whole: [u64; 3], floats: [f64; 15]) -> Self {
+        let [valid_count, p05_bin, p95_bin] = whole;
         let [min_db, max_db, mean_db, std_db, median_db, p01, p02, p05, p10, p25, p75, p90, p95, p98, p99] = floats;
-        Statistics { valid_count, min_db, max_db, mean_db, std_db, median_db, p01, p02, p05, p10, p25, p75, p90, p95, p98, p99 }
+        Statistics {
+            valid_count, min_db, max_db, mean_db, std_db, median_db, p01, p02, p05, p10, p25, p75, p90, p95, p98, p99, p05_bin, p95_bin,
+        }
     }
 
     /// The floats in the record's order, with the names that they are printed by.
     pub fn named(&self) -> [(&'static str, f64); 15] {
-        let Statistics { valid_count: _, min_db, max_db, mean_db, std_db, median_db, p01, p02, p05, p10, p25, p75, p90, p95, p98, p99 } =
-            *self;
+        let Statistics {
+            valid_count: _, min_db, max_db, mean_db, std_db, median_db, p01, p02, p05, p10, p25, p75, p90, p95, p98, p99, p05_bin: _, p95_bin: _,
+        } = *self;
         [
             ("min", min_db),
             ("max", max_db),
@@ -204,8 +214,12 @@ pub mod c {
     extern "C" {
         pub fn quicklook_marks(processed: *const f32, processed_len: usize, valid_mask: *mut u8, valid_mask_len: usize) -> u8;
         pub fn quicklook_statistics(
-            rows: usize, cols: usize, db: *const f64, db_len: usize, valid_mask: *const u8, valid_mask_len: usize, valid_count: *mut u64,
+            rows: usize, cols: usize, db: *const f64, db_len: usize, valid_mask: *const u8, valid_mask_len: usize, whole: *mut [u64; 3],
             floats: *mut [f64; 15],
+        ) -> u8;
+        pub fn quicklook_histogram(
+            rows: usize, cols: usize, db: *const f64, db_len: usize, valid_mask: *const u8, valid_mask_len: usize, counts: *mut u32,
+            counts_len: usize,
         ) -> u8;
         pub fn quicklook_window(
             strategy: u8, rows: usize, cols: usize, db: *const f64, db_len: usize, valid_mask: *const u8, valid_mask_len: usize,
@@ -265,10 +279,17 @@ pub fn marks(processed: &[f32], valid_mask: &mut [u8]) -> Answer<()> {
 }
 
 pub fn statistics(rows: usize, cols: usize, band: Band) -> Answer<Statistics> {
-    let mut valid_count = 0u64;
+    let mut whole = [0u64; 3];
     let mut floats = [0f64; 15];
-    codes::statistics(rows, cols, band, &mut valid_count, &mut floats)?;
-    Ok(Statistics::from_lent(valid_count, floats))
+    codes::statistics(rows, cols, band, &mut whole, &mut floats)?;
+    Ok(Statistics::from_lent(whole, floats))
+}
+
+/// The curve of a band: the counts of its valid decibels in 4,096 steps from the least to the greatest.
+pub fn histogram(rows: usize, cols: usize, band: Band) -> Answer<Vec<u32>> {
+    let mut counts = vec![0u32; BINS];
+    codes::histogram(rows, cols, band, &mut counts)?;
+    Ok(counts)
 }
 
 pub fn window(strategy: AutoscaleStrategy, rows: usize, cols: usize, band: Band) -> Answer<Window> {
@@ -339,10 +360,16 @@ pub mod codes {
         })
     }
 
-    pub fn statistics(rows: usize, cols: usize, band: Band, valid_count: &mut u64, floats: &mut [f64; 15]) -> Answer<()> {
+    pub fn statistics(rows: usize, cols: usize, band: Band, whole: &mut [u64; 3], floats: &mut [f64; 15]) -> Answer<()> {
         let Band { db, valid_mask } = band;
+        call(|| unsafe { c::quicklook_statistics(rows, cols, db.as_ptr(), db.len(), valid_mask.as_ptr(), valid_mask.len(), whole, floats) })
+    }
+
+    pub fn histogram(rows: usize, cols: usize, band: Band, counts: &mut [u32]) -> Answer<()> {
+        let Band { db, valid_mask } = band;
+        let (counts, counts_len) = (counts.as_mut_ptr(), counts.len());
         call(|| unsafe {
-            c::quicklook_statistics(rows, cols, db.as_ptr(), db.len(), valid_mask.as_ptr(), valid_mask.len(), valid_count, floats)
+            c::quicklook_histogram(rows, cols, db.as_ptr(), db.len(), valid_mask.as_ptr(), valid_mask.len(), counts, counts_len)
         })
     }
 

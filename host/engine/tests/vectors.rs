@@ -225,7 +225,7 @@ fn compose(record: &Record) -> Outcome {
 fn statistics(record: &Record) -> Outcome {
     record.has(4)?;
     let (db, valid_mask) = (record.list::<f64>(0)?, record.list::<u8>(1)?);
-    let (mut valid_count, mut floats) = (Lent::new(1), Lent::<f64>::new(15));
+    let (mut whole, mut floats) = (Lent::<u64>::new(3), Lent::<f64>::new(15));
     record.answers(unsafe {
         c::quicklook_statistics(
             record.rows,
@@ -234,7 +234,7 @@ fn statistics(record: &Record) -> Outcome {
             db.len(),
             valid_mask.as_ptr(),
             valid_mask.len(),
-            valid_count.ptr(),
+            whole.ptr().cast(),
             floats.ptr().cast(),
         )
     })?;

@@ -226,6 +226,8 @@ struct ToldStatistics<'a> {
     valid: u64,
     #[serde(flatten, serialize_with = "named")]
     floats: Statistics,
+    p05_bin: u64,
+    p95_bin: u64,
 }
 
 fn named<S: Serializer>(statistics: &Statistics, serializer: S) -> Result<S::Ok, S::Error> {
@@ -255,11 +257,16 @@ fn stats(files: &BandFiles, as_json: bool) -> Outcome<()> {
     let statistics = answer.map_err(|refusal| explain::refused(refusal, &scene, AutoscaleStrategy::Default))?;
     scene.origin.unchanged()?;
     if as_json {
-        return print(&json::line(&ToldStatistics { head: Head::of(&scene), valid: statistics.valid_count, floats: statistics }));
+        let Statistics { valid_count: valid, p05_bin, p95_bin, .. } = statistics;
+        return print(&json::line(&ToldStatistics { head: Head::of(&scene), valid, floats: statistics, p05_bin, p95_bin }));
     }
     let mut text = format!("{:<8}{}\n", "valid", statistics.valid_count);
     for (name, value) in statistics.named() {
-        text.push_str(&format!("{name:<8}{value}\n"));
+        match name {
+            "p05" => text.push_str(&format!("{name:<8}{value}  bin {}\n", statistics.p05_bin)),
+            "p95" => text.push_str(&format!("{name:<8}{value}  bin {}\n", statistics.p95_bin)),
+            _ => text.push_str(&format!("{name:<8}{value}\n")),
+        }
     }
     print(&text)
 }

@@ -9,7 +9,7 @@ use crate::origin::{self, Items, painted_window};
 use crate::outputs;
 use crate::parts::Parts;
 use crate::progress::{note, step};
-use crate::scene::{BandRasters, Scene, Wanted};
+use crate::scene::{Scene, Wanted};
 use crate::threads;
 use crate::trouble::{Outcome, Trouble};
 use engine::{Answer, AutoscaleStrategy, PictureOut, Statistics, SyntheticRgbMode, Window};
@@ -23,9 +23,6 @@ use wire::Georeference;
 const PAGE: &str = include_str!("viewer/page.html");
 const STYLE: &str = include_str!("viewer/style.css");
 const SCRIPT: &str = include_str!("viewer/viewer.js");
-
-/// Bins of the drawn histogram.
-const BARS: usize = 256;
 
 /// A list of the page: its name, the bytes of an element, all bytes row by row.
 struct List {
@@ -156,10 +153,10 @@ struct Described<'a> {
     crop: Option<[usize; 2]>,
     bands: usize,
     statistic_names: Vec<&'static str>,
-    /// Of each band the count, which a float holds, and the fifteen floats.
+    /// Of each band the count, the fifteen floats and two bins; a float holds these whole numbers.
     statistics: Vec<Vec<f64>>,
     windows: Vec<Option<Ends>>,
-    histograms: Vec<Histogram>,
+    curves: Vec<Curve>,
     origin: &'a Items,
     block_rows: usize,
     ground: Option<Ground>,
@@ -172,12 +169,23 @@ struct Ends {
     high: f64,
 }
 
-/// Counts of valid decibels between the least and the greatest, for drawing only.
+/// The engine's counts of a band's valid decibels between the least and the greatest, and the cuts on them.
 #[derive(Serialize)]
-struct Histogram {
+struct Curve {
     min: f64,
     max: f64,
     counts: Vec<u32>,
+    ticks: [Tick; 2],
+}
+
+/// A percentile on the curve.
+#[derive(Serialize)]
+struct Tick {
+    name: &'static str,
+    db: f64,
+    bin: u64,
+    /// The pixels in the bins before it.
+    below: u64,
 }
 
 /// Where the pixels lie: the six numbers where there are such, and a grid of places to read between.
@@ -197,6 +205,7 @@ fn describe<'a>(
 ) -> Answer<Described<'a>> {
     let &Scene { rows, cols, ref bands, .. } = scene;
     let statistics = bands.iter().map(|band| engine::statistics(rows, cols, band.band())).collect::<Answer<Vec<_>>>()?;
+    let curves = bands.iter().map(|band| engine::histogram(rows, cols, band.band())).collect::<Answer<Vec<_>>>()?;
     let windows = (0..bands.len()).map(|k| match painted_window(scene, k, strategy, bands.len() == 2) {
         Some(Window::Window { low, high, .. }) => Some(Ends { low, high }),
         Some(Window::Blank) | None => None,
@@ -212,13 +221,16 @@ fn describe<'a>(
         cols,
         crop: scene.origin.crop.map(|crop| [crop.row, crop.col]),
         bands: bands.len(),
-        statistic_names: std::iter::once("valid").chain(statistics[0].named().map(|(name, _)| name)).collect(),
+        statistic_names: std::iter::once("valid").chain(statistics[0].named().map(|(name, _)| name)).chain(["p05 bin", "p95 bin"]).collect(),
         statistics: statistics
             .iter()
-            .map(|s| std::iter::once(s.valid_count as f64).chain(s.named().map(|(_, value)| value)).collect())
+            .map(|s| {
+                let bins = [s.p05_bin as f64, s.p95_bin as f64];
+                std::iter::once(s.valid_count as f64).chain(s.named().map(|(_, value)| value)).chain(bins).collect()
+            })
             .collect(),
         windows: windows.collect(),
-        histograms: statistics.iter().zip(bands).map(|(s, band)| histogram(s, band)).collect(),
+        curves: statistics.iter().zip(curves).map(|(s, counts)| curve(s, counts)).collect(),
         origin,
         block_rows,
         ground: None,
@@ -258,14 +270,10 @@ fn ground(georeference: &Georeference, rows: usize, cols: usize) -> Outcome<Opti
     }))
 }
 
-fn histogram(s: &Statistics, band: &BandRasters) -> Histogram {
-    let &Statistics { min_db: min, max_db: max, .. } = s;
-    let mut counts = vec![0u32; BARS];
-    for (&v, _) in band.band().db.iter().zip(band.band().valid_mask).filter(|(_, &mark)| mark == 1) {
-        let bar = if max > min { ((v - min) / (max - min) * BARS as f64) as usize } else { 0 };
-        counts[bar.min(BARS - 1)] += 1;
-    }
-    Histogram { min, max, counts }
+fn curve(s: &Statistics, counts: Vec<u32>) -> Curve {
+    let tick = |name, db, bin: u64| Tick { name, db, bin, below: counts[..bin as usize].iter().copied().map(u64::from).sum() };
+    let ticks = [tick("p05", s.p05, s.p05_bin), tick("p95", s.p95, s.p95_bin)];
+    Curve { min: s.min_db, max: s.max_db, counts, ticks }
 }
 
 fn escaped(text: &str) -> String {

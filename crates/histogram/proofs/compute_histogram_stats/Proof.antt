@@ -4,7 +4,7 @@ use native.Mathlib.Nat.{mul-le-mul}
 use native.Mathlib.Omega.{arith}
 use Rattle.spec.specs.Statistics.{readStatistics}
 use Rattle.raster.proofs.Bands.{shape-accepted}
-use Rattle.histogram.proofs.Statistics.{call-shape, call-bad, call-done}
+use Rattle.histogram.proofs.Statistics.{first-pass-count, call-shape, call-bad, call-done}
 use borrow.Author.Needs.{needs}
 use Rattle.histogram.proofs.compute_histogram_stats.Statement.{statement}
 use Rattle.histogram.proofs.compute_histogram_stats.Tie as tie
@@ -27,9 +27,13 @@ returns-2 c =
 
 summary-requires : tie.Need-summary-requires
 summary-requires c κs =
-    let b = c .before .before .before .before in
-    let s = shape-accepted _ _ _ _ (sym (b .before .shape-refusal .ensures) ∙ b .if1 .left) in
-    (s .length-marks ∙ sym (s .length-db), omega (arith, s .length-db, mul-le-mul (s .rows-most) (s .cols-most)))
+    let f = c .before .before .before in
+    let b = f .before in
+    let s = shape-accepted _ _ _ _ (sym (b .before .shape-refusal .ensures) ∙ b .if1 .left) in (
+      s .length-marks ∙ sym (s .length-db),
+      omega (arith, s .length-db, mul-le-mul (s .rows-most) (s .cols-most)),
+      first-pass-count _ _ (sym (f .first-pass .ensures) ∙ c .before .m .given .1),
+    )
 
 returns-3 : tie.Need-returns-3
 unfolding readStatistics

@@ -335,33 +335,52 @@ const Quicklook = (() => {
     }
   }
 
+  // The engine's counts, eight bins to a column, and below them a tick at each percentile that it has placed.
   function showHistograms() {
+    const columns = 512, foot = 110, tickFoot = 132;
     const place = $("histograms");
     place.textContent = "";
     const style = getComputedStyle(document.documentElement);
-    scene.histograms.forEach((h, k) => {
+    scene.curves.forEach((h, k) => {
       const canvas = document.createElement("canvas");
-      canvas.width = 512; canvas.height = 110;
+      canvas.width = columns; canvas.height = tickFoot;
       canvas.setAttribute("role", "img");
       const g = canvas.getContext("2d");
-      const most = Math.max(1, ...h.counts);
+      const bars = new Array(columns).fill(0);
+      h.counts.forEach((count, bin) => { bars[Math.floor(bin * columns / h.counts.length)] += count; });
+      const most = Math.max(1, ...bars);
       g.fillStyle = style.getPropertyValue("--soft");
-      h.counts.forEach((count, b) => {
+      bars.forEach((count, column) => {
         const height = count === 0 ? 0 : Math.max(1, 100 * Math.sqrt(count / most));
-        g.fillRect(b * 2, 110 - height, 2, height);
+        g.fillRect(column, foot - height, 1, height);
       });
       const x = (db) => h.max > h.min ? 512 * (db - h.min) / (h.max - h.min) : 0;
       const window_ = scene.windows[k];
       const caption = document.createElement("p");
       if (window_) {
         g.fillStyle = style.getPropertyValue("--mark");
-        for (const end of [window_.low, window_.high]) g.fillRect(Math.min(510, Math.max(0, Math.round(x(end)) - 1)), 0, 2, 110);
+        for (const end of [window_.low, window_.high]) g.fillRect(Math.min(510, Math.max(0, Math.round(x(end)) - 1)), 0, 2, foot);
         caption.textContent = `Band ${k + 1}: ${h.min.toFixed(2)} to ${h.max.toFixed(2)} dB, heights by square root; window from ${window_.low.toFixed(2)} to ${window_.high.toFixed(2)} dB`;
       } else {
         caption.textContent = `Band ${k + 1}: no valid pixel`;
       }
       canvas.setAttribute("aria-label", caption.textContent);
       place.append(canvas, caption);
+      const valid = scene.statistics[k][0];
+      if (valid === 0) return;
+      const ticks = document.createElement("ul");
+      g.fillStyle = style.getPropertyValue("--ink");
+      g.font = "11px sans-serif";
+      for (const tick of h.ticks) {
+        const at = (tick.bin + 0.5) * columns / h.counts.length;
+        g.fillRect(Math.min(columns - 1, Math.round(at - 0.5)), foot - 6, 1, 12);
+        g.textAlign = at < 20 ? "left" : at > columns - 20 ? "right" : "center";
+        g.fillText(tick.name, at, tickFoot - 4);
+        const line = document.createElement("li");
+        line.textContent = `${tick.name}: ${tick.db.toFixed(2)} dB, bin ${tick.bin}, ${(100 * tick.below / valid).toFixed(2)} % of valid pixels in the bins below`;
+        ticks.append(line);
+      }
+      place.append(ticks);
     });
   }
 

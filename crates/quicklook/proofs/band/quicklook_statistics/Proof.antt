@@ -1,8 +1,8 @@
 -- `quicklook::band::quicklook_statistics` meets its contract. Assumes nothing.
-use mathlib.Core.Path.{refl, sym, ap, _∙_}
+use mathlib.Core.Path.{sym, ap, _∙_}
 use Rattle.spec.specs.Statistics.{readStatistics}
-use Rattle.quicklook.specs.Numbers.{countOf, floatsOf}
-use Rattle.quicklook.proofs.Answers.{refused-numbers, done-numbers}
+use Rattle.quicklook.specs.Numbers.{wholeOf, floatsOf}
+use Rattle.quicklook.proofs.Answers.{refused-two, done-two}
 use borrow.Author.Needs.{needs}
 use Rattle.quicklook.proofs.band.quicklook_statistics.Statement.{statement}
 use Rattle.quicklook.proofs.band.quicklook_statistics.Tie as tie
@@ -10,14 +10,14 @@ use Rattle.quicklook.proofs.band.quicklook_statistics.Tie as tie
 returns : tie.Need-returns
 unfolding readStatistics
 returns c =
-    let k = c .before .before .before in
-    done-numbers countOf floatsOf _ _ _ _ _ _ (sym (k .before .before .compute-histogram-stats .ensures) ∙ ap readStatistics (k .stats .given .1)) refl (c .put-statistics .ensures)
+    let k = c .before .before .before .before in
+    done-two wholeOf floatsOf _ _ _ _ _ _ (sym (k .before .before .compute-histogram-stats .ensures) ∙ ap readStatistics (k .stats .given .1)) (c .put-statistics .ensures)
 
 returns-2 : tie.Need-returns-2
 unfolding readStatistics
 returns-2 c =
     let k = c .before in
-    refused-numbers countOf floatsOf _ _ _ _ (sym (k .before .before .compute-histogram-stats .ensures) ∙ ap readStatistics (k .k .given .1))
+    refused-two wholeOf floatsOf _ _ _ _ (sym (k .before .before .compute-histogram-stats .ensures) ∙ ap readStatistics (k .k .given .1))
 
 pub quicklook-statistics-spec : {M : Type 1} → statement M
 quicklook-statistics-spec =

@@ -1,0 +1,37 @@
+-- Document 02, F-6: where a percentile stands on the curve of counts. Statements only: the proofs are in proofs/.
+use Prim.Native.Nat.{ℕ, _+_, _<_}
+use mathlib.Core.Path.{_≡_}
+use mathlib.Core.Bool.{true, false}
+use mathlib.Core.List.{List}
+use lib.ListN.{length, getD, take}
+use lib.Ieee.{Float}
+use Rattle.types.specs.declared.Moments.{Moments}
+use Rattle.types.specs.declared.Percentile.{Percentile}
+use Rattle.spec.specs.Lists.{sumOf}
+use Rattle.spec.specs.Pixels.{Pixel, validOf}
+use Rattle.spec.specs.Moments.{noMoments, momentsFrom, isFlat}
+use Rattle.spec.specs.Percentile.{targetOf, estimatePercentile}
+use Rattle.spec.specs.Statistics.{gathered, statisticsOf}
+use Rattle.spec.specs.Curve.{curveOf}
+
+abbrev pub momentsOf : List Pixel → Moments
+momentsOf px = momentsFrom noMoments (validOf px)
+
+-- the percentile of fraction p of a band
+abbrev pub tick : List Pixel → Float → Percentile
+tick px p = estimatePercentile (momentsOf px) (curveOf px) p
+
+pub record Ticks : Type 0 where
+  -- "w the target less the count before it": the counts before the bin and the rank are the target
+  pub target :
+      (px : List Pixel) → isFlat (momentsOf px) ≡ false → (p : Float) → sumOf (take (tick px p .bin) (curveOf px)) + tick px p .rank ≡ targetOf p (length (validOf px))
+  -- "the first bin whose running count exceeds the target": the rank is below the bin's own count
+  pub inside : (px : List Pixel) → isFlat (momentsOf px) ≡ false → (p : Float) → tick px p .rank < getD (curveOf px) (tick px p .bin) 0
+  -- "0 and 0 for flat scenes and blank bands"
+  pub flat : (px : List Pixel) → isFlat (momentsOf px) ≡ true → (p : Float) → (tick px p .bin ≡ 0) × (tick px p .rank ≡ 0)
+  pub blank : (px : List Pixel) → length (validOf px) ≡ 0 → (p : Float) → (tick px p .bin ≡ 0) × (tick px p .rank ≡ 0)
+  -- the curve has 4,096 counts, and they sum to the count
+  pub size : (px : List Pixel) → length (curveOf px) ≡ 4096
+  pub sum : (px : List Pixel) → sumOf (curveOf px) ≡ length (validOf px)
+  -- the statistics are read off the curve
+  pub read : (px : List Pixel) → statisticsOf px ≡ gathered (momentsOf px) (tick px)
