@@ -50,30 +50,55 @@ static void marks(void) {
 }
 
 static void statistics(void) {
-    double db[2] = {0.0, 10.0}, floats[15];
+    double db[2] = {0.0, 10.0}, floats[QUICKLOOK_STATISTICS_FLOATS];
     uint8_t mask[2] = {1, 1};
-    uint64_t count = 7;
-    check(quicklook_statistics(1, 2, db, 2, mask, 2, &count, floats) == 0 && count == 2 && floats[0] == 0.0 && floats[1] == 10.0 && floats[7] == 0.0 &&
-              floats[12] == 9.99755859375,
+    uint64_t whole[QUICKLOOK_STATISTICS_WHOLE];
+    check(quicklook_statistics(1, 2, db, 2, mask, 2, whole, floats) == 0 && whole[0] == 2 && whole[1] == 0 && whole[2] == 4095 && floats[0] == 0.0 &&
+              floats[1] == 10.0 && floats[7] == 0.0 && floats[12] == 9.99755859375,
           "statistics of 0, 10");
     struct { size_t rows, cols, db, mask; int number; const char *what; } bad[] = {
         {4097, 0, 0, 0, 1, "a side above 4,096"}, {0, SIZE_MAX, 0, 0, 1, "a side of SIZE_MAX"}, {1, 2, 1, 2, 2, "one dB short"}, {1, 2, 2, 1, 2, "one mark short"}};
     for (size_t i = 0; i < sizeof bad / sizeof *bad; i++) {
-        count = 7;
+        memset(whole, 0x55, sizeof whole);
         memset(floats, 0x55, sizeof floats);
-        int number = quicklook_statistics(bad[i].rows, bad[i].cols, db, bad[i].db, mask, bad[i].mask, &count, floats);
-        check(number == bad[i].number && count == 7 && all(floats, sizeof floats, 0x55), bad[i].what);
+        int number = quicklook_statistics(bad[i].rows, bad[i].cols, db, bad[i].db, mask, bad[i].mask, whole, floats);
+        check(number == bad[i].number && all(whole, sizeof whole, 0x55) && all(floats, sizeof floats, 0x55), bad[i].what);
     }
     mask[1] = 2;
     db[0] = NAN;
-    memset(floats, 0x55, sizeof floats);
-    check(quicklook_statistics(1, 2, db, 2, mask, 2, &count, floats) == 3 && count == 7 && all(floats, sizeof floats, 0x55), "a mark of 2 before a NaN");
+    check(quicklook_statistics(1, 2, db, 2, mask, 2, whole, floats) == 3 && all(whole, sizeof whole, 0x55) && all(floats, sizeof floats, 0x55), "a mark of 2 before a NaN");
     mask[1] = 1;
-    check(quicklook_statistics(1, 2, db, 2, mask, 2, &count, floats) == 4, "a valid NaN");
+    check(quicklook_statistics(1, 2, db, 2, mask, 2, whole, floats) == 4 && all(whole, sizeof whole, 0x55), "a valid NaN");
     mask[0] = 0;
-    check(quicklook_statistics(1, 2, db, 2, mask, 2, &count, floats) == 0 && count == 1 && floats[0] == 10.0, "a NaN under a 0 mark");
+    check(quicklook_statistics(1, 2, db, 2, mask, 2, whole, floats) == 0 && whole[0] == 1 && whole[1] == 0 && whole[2] == 0 && floats[0] == 10.0, "a NaN under a 0 mark");
     mask[1] = 0;
-    check(quicklook_statistics(1, 2, db, 2, mask, 2, &count, floats) == 0 && count == 0 && floats[0] == 0.0 && floats[14] == 0.0, "no valid pixel");
+    memset(whole, 0x55, sizeof whole);
+    check(quicklook_statistics(1, 2, db, 2, mask, 2, whole, floats) == 0 && whole[0] == 0 && whole[1] == 0 && whole[2] == 0 && floats[0] == 0.0 && floats[14] == 0.0, "no valid pixel");
+}
+
+static void histogram(void) {
+    double db[3] = {0.0, 10.0, NAN};
+    uint8_t mask[3] = {1, 1, 0};
+    size_t n = QUICKLOOK_BINS;
+    uint32_t *counts = lent(n, sizeof *counts, 0x55);
+    check(quicklook_histogram(1, 3, db, 3, mask, 3, counts, n) == 0 && counts[0] == 1 && counts[n - 1] == 1 && all(counts + 1, (n - 2) * sizeof *counts, 0), "curve of 0, 10");
+    db[1] = 1e-16;
+    check(quicklook_histogram(1, 3, db, 3, mask, 3, counts, n) == 0 && counts[0] == 2 && all(counts + 1, (n - 1) * sizeof *counts, 0), "curve of a flat scene");
+    struct { size_t rows, cols, db, mask, counts; int number; const char *what; } bad[] = {
+        {4097, 0, 0, 0, n - 1, 1, "curve of a side above 4,096"}, {1, 3, 2, 3, n, 2, "curve of one dB short"}, {1, 3, 3, 2, n, 2, "curve of one mark short"},
+        {1, 3, 3, 3, n - 1, 2, "a curve one bin short"}, {1, 3, 3, 3, 0, 2, "a curve without bins"}};
+    for (size_t i = 0; i < sizeof bad / sizeof *bad; i++) {
+        memset(counts, 0x55, n * sizeof *counts);
+        int number = quicklook_histogram(bad[i].rows, bad[i].cols, db, bad[i].db, mask, bad[i].mask, counts, bad[i].counts);
+        check(number == bad[i].number && all(counts, n * sizeof *counts, 0x55), bad[i].what);
+    }
+    mask[1] = 2, mask[2] = 1;
+    check(quicklook_histogram(1, 3, db, 3, mask, 3, counts, n) == 3 && all(counts, n * sizeof *counts, 0x55), "curve with a mark of 2 before a NaN");
+    mask[1] = 1;
+    check(quicklook_histogram(1, 3, db, 3, mask, 3, counts, n) == 4 && all(counts, n * sizeof *counts, 0x55), "curve with a valid NaN");
+    memset(mask, 0, 3);
+    check(quicklook_histogram(1, 3, db, 3, mask, 3, counts, n) == 0 && all(counts, n * sizeof *counts, 0), "curve of no valid pixel");
+    free(counts);
 }
 
 static void window(void) {
@@ -179,6 +204,7 @@ static void beside(void) {
 int main(void) {
     marks();
     statistics();
+    histogram();
     window();
     grey();
     picture();

@@ -1,4 +1,5 @@
 """The program `quicklook` as people use it: files in and out, refusals, damaged files. Usage: host.py PATH-OF-QUICKLOOK"""
+import json
 import os
 import pathlib
 import resource
@@ -59,9 +60,33 @@ class Samples(Case):
 
     def test_statistics(self):
         text = self.done("stats", self.save("db.npy", numpy.array([[0.0, 10.0]])), self.save("m.npy", numpy.ones((1, 2), numpy.uint8)))
-        found = dict(line.split() for line in text.splitlines())
+        found = {name: words for name, *words in (line.split() for line in text.splitlines())}
         self.assertEqual(len(found), 16)
-        self.assertEqual((found["valid"], found["p05"], found["p95"]), ("2", "0", "9.99755859375"))
+        self.assertEqual((found["valid"], found["p05"], found["p95"]), (["2"], ["0", "bin", "0"], ["9.99755859375", "bin", "4095"]))
+        told = json.loads(self.done("stats", "--json", self.at("db.npy"), self.at("m.npy")))
+        self.assertEqual((told["p05_bin"], told["p95_bin"]), (0, 4095))
+
+    def test_histogram(self):
+        """The counts are NumPy's over the same steps; a flat scene stands in bin 0, a blank one nowhere."""
+        db = numpy.random.default_rng(3).normal(-12, 4, (40, 50))
+        marks = (numpy.random.default_rng(4).uniform(size=db.shape) < 0.8).astype(numpy.uint8)
+        files = self.save("db.npy", db), self.save("m.npy", marks)
+        told = json.loads(self.done("histogram", "--json", *files))
+        valid = db[marks == 1]
+        self.assertEqual((told["min"], told["max"], len(told["counts"]), sum(told["counts"])), (valid.min(), valid.max(), 4096, valid.size))
+        bins = numpy.minimum(numpy.trunc((valid - valid.min()) * (1 / (valid.max() - valid.min())) * 4096), 4095).astype(int)
+        self.assertEqual(told["counts"], numpy.bincount(bins, minlength=4096).tolist())
+        lines = [line.split() for line in self.done("histogram", *files).splitlines()]
+        self.assertEqual([int(count) for _, count in lines[2:]], told["counts"])
+        stats = json.loads(self.done("stats", "--json", *files))
+        for name, fraction in (("p05", 0.05), ("p95", 0.95)):
+            before = sum(told["counts"][: stats[name + "_bin"]])
+            self.assertTrue(before <= int(fraction * valid.size) < before + told["counts"][stats[name + "_bin"]])
+        flat = json.loads(self.done("histogram", "--json", self.save("flat.npy", numpy.full((2, 3), 7.5)), self.save("all.npy", numpy.ones((2, 3), bool))))
+        self.assertEqual((flat["counts"][0], sum(flat["counts"])), (6, 6))
+        blank = json.loads(self.done("histogram", "--json", self.at("flat.npy"), self.save("none.npy", numpy.zeros((2, 3), bool))))
+        self.assertEqual(sum(blank["counts"]), 0)
+        self.fails(3, "m8.npy", "histogram", self.at("flat.npy"), self.save("m8.npy", numpy.full((2, 3), 2, numpy.uint8)))
 
     def test_window(self):
         marks = self.save("m.npy", numpy.ones((1, 2), bool))

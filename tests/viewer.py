@@ -1,6 +1,7 @@
 """The deck viewer's page in a real browser: values read back, views, gamma, patches, keyboard. Usage: viewer.py PATH-OF-QUICKLOOK [FOLDER-FOR-SCREENSHOTS]"""
 import base64
 import io
+import json
 import os
 import pathlib
 import subprocess
@@ -58,7 +59,7 @@ def setUpModule():
     GREYS = [numpy.load(f"{FOLDER}/grey{band}.npy") for band in (1, 2)]
     RGB = numpy.load(f"{FOLDER}/rgb.npy")
     STATS = [
-        dict(line.split() for line in subprocess.run([PROGRAM, "stats", f"db{b}.npy", f"marks{b}.npy"], cwd=FOLDER, capture_output=True, text=True, check=True).stdout.splitlines())
+        json.loads(subprocess.run([PROGRAM, "stats", "--json", f"db{b}.npy", f"marks{b}.npy"], cwd=FOLDER, capture_output=True, text=True, check=True).stdout)
         for b in (1, 2)
     ]
 
@@ -202,10 +203,35 @@ class Page(unittest.TestCase):
     def test_statistics_and_window(self):
         self.open()
         rows = [[cell.text for cell in tr.find_elements(By.TAG_NAME, "td")] for tr in self.driver.find_elements(By.CSS_SELECTOR, "#statistics tr")][1:]
-        self.assertEqual(len(rows), 16)
+        self.assertEqual(len(rows), 18)
         for name, *values in rows:
-            self.assertEqual([float(v) for v in values], [float(s[name]) for s in STATS], name)
-        self.assertEqual(len(self.driver.find_elements(By.CSS_SELECTOR, "#histograms canvas")), 2)
+            self.assertEqual([float(v) for v in values], [float(s[name.replace(" ", "_")]) for s in STATS], name)
+
+    def test_curve_and_ticks(self):
+        """The curve has a column for every eight of NumPy's bins, and the ticks stand in the bins that hold p05 and p95."""
+        self.open()
+        canvases = self.driver.find_elements(By.CSS_SELECTOR, "#histograms canvas")
+        lines = [line.text for line in self.driver.find_elements(By.CSS_SELECTOR, "#histograms li")]
+        self.assertEqual((len(canvases), len(lines)), (2, 4))
+        for k, (db, marks, stats) in enumerate(zip(DB, MARKS, STATS)):
+            valid = db[marks == 1]
+            bins = numpy.minimum(numpy.trunc((valid - valid.min()) * (1 / (valid.max() - valid.min())) * 4096), 4095).astype(int)
+            counts = numpy.bincount(bins, minlength=4096)
+            picture = self.driver.execute_script("return arguments[0].toDataURL()", canvases[k])
+            pixels = numpy.asarray(Image.open(io.BytesIO(base64.b64decode(picture.partition(",")[2]))).convert("RGBA")).astype(int)
+            bars = counts.reshape(512, 8).sum(axis=1)
+            heights = numpy.where(bars > 0, numpy.maximum(1, 100 * numpy.sqrt(bars / bars.max())), 0)
+            drawn = (pixels[:100, :, 3] > 0).sum(axis=0)
+            window_columns = set(numpy.flatnonzero(drawn == 100))
+            plain = [c for c in range(512) if c not in window_columns]
+            self.assertLessEqual(numpy.abs(drawn[plain] - numpy.maximum(0, heights[plain] - 10)).max(), 1)
+            for name, line in zip(("p05", "p95"), lines[2 * k : 2 * k + 2]):
+                bin_ = stats[f"{name}_bin"]
+                share = 100 * counts[:bin_].sum() / valid.size
+                self.assertEqual(line, f"{name}: {stats[name]:.2f} dB, bin {bin_}, {share:.2f} % of valid pixels in the bins below")
+                column = round((bin_ + 0.5) / 8 - 0.5)
+                self.assertTrue((pixels[111:115, column, 3] == 255).all(), "a tick below its bin")
+                self.assertEqual(int((pixels[112, :, 3] == 255).sum()), 2)
 
     def test_marks_zoom_save_and_night(self):
         self.open()

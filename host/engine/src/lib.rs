@@ -167,31 +167,45 @@ impl Statistics {
         let [valid_count, p05_bin, p95_bin] = whole;
         let [min_db, max_db, mean_db, std_db, median_db, p01, p02, p05, p10, p25, p75, p90, p95, p98, p99] = floats;
         Statistics {
-            valid_count, min_db, max_db, mean_db, std_db, median_db, p01, p02, p05, p10, p25, p75, p90, p95, p98, p99, p05_bin, p95_bin,
+            valid_count,
+            min_db,
+            max_db,
+            mean_db,
+            std_db,
+            median_db,
+            p01,
+            p02,
+            p05,
+            p10,
+            p25,
+            p75,
+            p90,
+            p95,
+            p98,
+            p99,
+            p05_bin,
+            p95_bin,
         }
     }
 
     /// The floats in the record's order, with the names that they are printed by.
     pub fn named(&self) -> [(&'static str, f64); 15] {
-        let Statistics {
-            valid_count: _, min_db, max_db, mean_db, std_db, median_db, p01, p02, p05, p10, p25, p75, p90, p95, p98, p99, p05_bin: _, p95_bin: _,
-        } = *self;
         [
-            ("min", min_db),
-            ("max", max_db),
-            ("mean", mean_db),
-            ("std", std_db),
-            ("median", median_db),
-            ("p01", p01),
-            ("p02", p02),
-            ("p05", p05),
-            ("p10", p10),
-            ("p25", p25),
-            ("p75", p75),
-            ("p90", p90),
-            ("p95", p95),
-            ("p98", p98),
-            ("p99", p99),
+            ("min", self.min_db),
+            ("max", self.max_db),
+            ("mean", self.mean_db),
+            ("std", self.std_db),
+            ("median", self.median_db),
+            ("p01", self.p01),
+            ("p02", self.p02),
+            ("p05", self.p05),
+            ("p10", self.p10),
+            ("p25", self.p25),
+            ("p75", self.p75),
+            ("p90", self.p90),
+            ("p95", self.p95),
+            ("p98", self.p98),
+            ("p99", self.p99),
         ]
     }
 }
@@ -441,6 +455,8 @@ mod tests {
     #[test]
     fn statistics_keep_their_order() {
         let floats: [f64; 15] = std::array::from_fn(|k| k as f64);
-        assert_eq!(Statistics::from_lent(7, floats).named().map(|(_, value)| value), floats);
+        let statistics = Statistics::from_lent([7, 8, 9], floats);
+        assert_eq!(statistics.named().map(|(_, value)| value), floats);
+        assert_eq!([statistics.valid_count, statistics.p05_bin, statistics.p95_bin], [7, 8, 9]);
     }
 }

@@ -238,7 +238,12 @@ fn statistics(record: &Record) -> Outcome {
             floats.ptr().cast(),
         )
     })?;
-    valid_count.is("count", &record.list::<u64>(2)?)?;
+    // The originals have no bins: those are compared by tests/reference.
+    let count = record.list::<u64>(2)?;
+    if count != whole.memory[..1] {
+        return Err(format!("count is {}, expected {count:?}", whole.memory[0]));
+    }
+    whole.is_untouched_from("whole", if record.reply == 0 { 3 } else { 1 })?;
     floats.is_by("floats", &record.list(3)?, as_numbers)
 }
 

@@ -65,8 +65,16 @@ pub enum Command {
         #[arg(long)]
         force: bool,
     },
-    /// The statistics of one band: a count and fifteen numbers, a line each
+    /// The statistics of one band: a count, fifteen numbers, and the bins of p05 and p95, a line each
     Stats {
+        #[command(flatten)]
+        band: BandFiles,
+        /// As JSON
+        #[arg(long)]
+        json: bool,
+    },
+    /// The curve of one band: the counts of its valid decibels in 4,096 equal steps from the least to the greatest
+    Histogram {
         #[command(flatten)]
         band: BandFiles,
         /// As JSON

@@ -33,6 +33,7 @@ pub fn run(command: Command) -> Outcome<()> {
         Command::Marks { intensities, part, out, form } => marks(&intensities, part, &out, form),
         Command::Read { band, out, marks_out, force } => read(&band.files(), &band.reading, [Some(&out), marks_out.as_ref()], force),
         Command::Stats { band, json } => stats(&band, json),
+        Command::Histogram { band, json } => histogram(&band, json),
         Command::Window { band, strategy, json } => window(&band, strategy.into(), json),
         Command::Grey { band, strategy, depth, out, form } => grey(&band, strategy.into(), depth, &out, form),
         Command::Picture { scene, painting: Painting { strategy, mode }, out, grey1, grey2, form } => {
@@ -234,6 +235,16 @@ fn named<S: Serializer>(statistics: &Statistics, serializer: S) -> Result<S::Ok,
     serializer.collect_map(statistics.named())
 }
 
+/// The JSON of `histogram`.
+#[derive(Serialize)]
+struct ToldHistogram<'a> {
+    #[serde(flatten)]
+    head: Head<'a>,
+    min: f64,
+    max: f64,
+    counts: &'a [u32],
+}
+
 /// The JSON of `window`; null is blank.
 #[derive(Serialize)]
 struct ToldWindow<'a> {
@@ -267,6 +278,24 @@ fn stats(files: &BandFiles, as_json: bool) -> Outcome<()> {
             "p95" => text.push_str(&format!("{name:<8}{value}  bin {}\n", statistics.p95_bin)),
             _ => text.push_str(&format!("{name:<8}{value}\n")),
         }
+    }
+    print(&text)
+}
+
+fn histogram(files: &BandFiles, as_json: bool) -> Outcome<()> {
+    let scene = step("reading", || Scene::read(&files.files(), Wanted::One, &files.reading, &[]))?;
+    let band = scene.bands[0].band();
+    let refused = |refusal| explain::refused(refusal, &scene, AutoscaleStrategy::Default);
+    let Statistics { min_db: min, max_db: max, .. } =
+        step("statistics", || engine::statistics(scene.rows, scene.cols, band)).map_err(refused)?;
+    let counts = step("histogram", || engine::histogram(scene.rows, scene.cols, band)).map_err(refused)?;
+    scene.origin.unchanged()?;
+    if as_json {
+        return print(&json::line(&ToldHistogram { head: Head::of(&scene), min, max, counts: &counts }));
+    }
+    let mut text = format!("{:<8}{min}\n{:<8}{max}\n", "min", "max");
+    for (bin, count) in counts.iter().enumerate() {
+        text.push_str(&format!("{bin:<8}{count}\n"));
     }
     print(&text)
 }

@@ -221,7 +221,10 @@ fn describe<'a>(
         cols,
         crop: scene.origin.crop.map(|crop| [crop.row, crop.col]),
         bands: bands.len(),
-        statistic_names: std::iter::once("valid").chain(statistics[0].named().map(|(name, _)| name)).chain(["p05 bin", "p95 bin"]).collect(),
+        statistic_names: std::iter::once("valid")
+            .chain(statistics[0].named().map(|(name, _)| name))
+            .chain(["p05 bin", "p95 bin"])
+            .collect(),
         statistics: statistics
             .iter()
             .map(|s| {

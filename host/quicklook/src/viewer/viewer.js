@@ -369,7 +369,7 @@ const Quicklook = (() => {
       const valid = scene.statistics[k][0];
       if (valid === 0) return;
       const ticks = document.createElement("ul");
-      g.fillStyle = style.getPropertyValue("--ink");
+      g.fillStyle = style.getPropertyValue("--accent");
       g.font = "11px sans-serif";
       for (const tick of h.ticks) {
         const at = (tick.bin + 0.5) * columns / h.counts.length;
