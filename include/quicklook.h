@@ -62,13 +62,13 @@ uint8_t quicklook_marks(const float *processed, size_t processed_len, uint8_t *v
 
 /* Statistics of one band. db and valid_mask have n elements. whole are the number of 1 marks, the bin of p05 and the bin of p95, bins of the
  * curve that quicklook_histogram gives, from 0 on; floats are min, max, mean, std, median, p01, p02, p05, p10, p25, p75, p90, p95, p98, p99.
- * Both bins are 0 where max - min is below 2^-52. Answers 0 to 4. */
+ * Both bins are 0 where max - min is below 2^-52, and without a 1 mark. Answers 0 to 4. */
 uint8_t quicklook_statistics(size_t rows, size_t cols, const double *db, size_t db_len, const uint8_t *valid_mask, size_t valid_mask_len,
                              uint64_t whole[QUICKLOOK_STATISTICS_WHOLE], double floats[QUICKLOOK_STATISTICS_FLOATS]);
 
-/* The curve of one band: how many of its valid decibels stand in each of QUICKLOOK_BINS equal steps from the least to the greatest. The
- * statistics are read off these counts, and they sum to the number of 1 marks. Where max - min is below 2^-52 all stand in bin 0.
- * db and valid_mask have n elements, counts QUICKLOOK_BINS. Answers 0 to 4. */
+/* The curve of one band: how many of its valid decibels stand in each of QUICKLOOK_BINS equal steps from the least to the greatest, the
+ * greatest in the last. The counts sum to the number of 1 marks, and the percentiles are read off them. Where max - min is below 2^-52 all
+ * stand in bin 0. db and valid_mask have n elements, counts QUICKLOOK_BINS. Answers 0 to 4. */
 uint8_t quicklook_histogram(size_t rows, size_t cols, const double *db, size_t db_len, const uint8_t *valid_mask, size_t valid_mask_len,
                             uint32_t *counts, size_t counts_len);
 
