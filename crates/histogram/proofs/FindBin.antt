@@ -10,13 +10,14 @@ use borrow.Author.Tests.{lt-ltb, le-ltb}
 use lib.Dec.{ltb}
 use lib.ListN.{length, getD, drop, length-drop}
 use lib.Seq.{drop-cons, drop-length}
-use lib.Ieee.{Float, binary64, mul, toUnsigned}
+use lib.Ieee.{Float, binary64, mul, div, lt, toUnsigned}
 use Rattle.types.specs.declared.BinRank.{BinRank}
 use Rattle.types.specs.declared.Moments.{Moments}
 use Rattle.types.specs.declared.Percentile.{Percentile}
-use Rattle.spec.specs.Floats.{ofCount}
-use Rattle.spec.specs.Moments.{isFlat}
-use Rattle.spec.specs.Percentile.{targetOf, findBin, flatPercentile, spreadPercentile, estimatePercentile}
+use Rattle.spec.specs.Floats.{half64, ofCount}
+use Rattle.spec.specs.Moments.{spanOf, isFlat}
+use Rattle.spec.specs.Bins.{bins64}
+use Rattle.spec.specs.Percentile.{targetOf, findBin, valueAt, flatPercentile, spreadPercentile, estimatePercentile}
 
 -- ---- the target
 
@@ -39,6 +40,10 @@ module _ (p : Float) (count n : ℕ) (e : n ≡ toUnsigned 64 (mul binary64 p (o
 pub targetOf-most : (p : Float) (count : ℕ) → targetOf p count ≤ count - 1
 unfolding targetOf
 targetOf-most p count = min-le-right _ (count - 1)
+
+-- of any fraction
+pub target-most : (t count : ℕ) (p : Float) → t ≡ targetOf p count → t ≤ count - 1
+target-most t count p e = rw e (targetOf-most p count)
 
 -- ---- the walk
 
@@ -98,7 +103,34 @@ findBin-rank-most t before b (h ∷ h′ ∷ hs) = go (ltb t (before + h)) (find
     go true r g = omega arith
     go false r g = g
 
+-- what is found for any target
+module _ (found : BinRank) (t : ℕ) (hist : List ℕ) (e : found ≡ findBin t 0 0 hist) where
+  pub found-bin : 0 < length hist → found .bin < length hist
+  found-bin l = omega (arith, ap (λ (r : BinRank). r .bin) e, findBin-bin-most t 0 0 hist l)
+
+  pub found-rank : found .rank ≤ t
+  found-rank = omega (arith, ap (λ (r : BinRank). r .rank) e, findBin-rank-most t 0 0 hist)
+
 -- ---- the percentile, flat or not
+
+abbrev pub at-zero : Float → Percentile
+at-zero v = record { value = v; bin = 0; rank = 0 }
+
+module _ (m : Moments) (p : Float) where
+  pub flat-above : lt half64 p ≡ true → at-zero (m .«max_db») ≡ flatPercentile m p
+  unfolding flatPercentile
+  flat-above e = ap (λ (b : Bool). at-zero (cond b (m .«max_db») (m .«min_db»))) (sym e)
+
+  pub flat-below : lt half64 p ≡ false → at-zero (m .«min_db») ≡ flatPercentile m p
+  unfolding flatPercentile
+  flat-below e = ap (λ (b : Bool). at-zero (cond b (m .«max_db») (m .«min_db»))) (sym e)
+
+abbrev pub found-at : BinRank → Float → Percentile
+found-at r v = record { value = v; bin = r .bin; rank = r .rank }
+
+pub spread-at : (m : Moments) (r : BinRank) (v : Float) → v ≡ valueAt (m .«min_db») (div binary64 (spanOf m) bins64) r → found-at r v ≡ spreadPercentile m r
+unfolding spreadPercentile
+spread-at m r v e = ap (found-at r) e
 
 module _ (m : Moments) (hist : List ℕ) (p : Float) where
   pub percentile-flat : isFlat m ≡ true → flatPercentile m p ≡ estimatePercentile m hist p

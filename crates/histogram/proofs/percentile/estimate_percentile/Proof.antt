@@ -1,9 +1,7 @@
 -- `histogram::percentile::estimate_percentile` meets its contract. Assumes nothing.
-use mathlib.Core.Path.{sym, ap, _∙_}
+use mathlib.Core.Path.{sym, _∙_}
 use native.Mathlib.Omega.{arith}
-use Rattle.types.specs.declared.BinRank.{BinRank}
-use Rattle.spec.specs.Percentile.{estimatePercentile}
-use Rattle.histogram.proofs.FindBin.{targetOf-most, findBin-bin-most, findBin-rank-most, percentile-flat, percentile-spread}
+use Rattle.histogram.proofs.FindBin.{target-most, found-bin, found-rank, percentile-flat, percentile-spread}
 use borrow.Author.Needs.{needs}
 use Rattle.histogram.proofs.percentile.estimate_percentile.Statement.{statement}
 use Rattle.histogram.proofs.percentile.estimate_percentile.Tie as tie
@@ -12,22 +10,13 @@ returns : tie.Need-returns
 returns c = c .flat-percentile .ensures ∙ percentile-flat _ _ _ (sym (c .before .before .is-flat .ensures) ∙ c .before .if1 .taken)
 
 find-bin-requires : tie.Need-find-bin-requires
-find-bin-requires c κs =
-    let s = c .before .before .before .before in
-    let t = c .target-of in
-    (s .pre, omega (arith, t .ensures, targetOf-most (s .args .p) (s .args .m .count)))
+find-bin-requires c κs = (c .before .before .before .before .pre, omega (arith, target-most _ _ _ (c .target-of .ensures)))
 
 spread-percentile-requires : tie.Need-spread-percentile-requires
 spread-percentile-requires c κs =
     let s = c .before .before .before .before .before in
-    let t = c .before .target-of in
-    let h = s .args .hist .now in
     let e = c .find-bin .ensures in
-    let b = ap (λ (r : BinRank). r .bin) e in
-    let w = ap (λ (r : BinRank). r .rank) e in (
-      omega (arith, b, s .pre, findBin-bin-most (t .result) 0 0 h (omega (arith, s .pre))),
-      omega (arith, w, findBin-rank-most (t .result) 0 0 h, t .ensures, targetOf-most (s .args .p) (s .args .m .count)),
-    )
+    (omega (arith, s .pre, found-bin _ _ _ e (omega (arith, s .pre))), omega (arith, found-rank _ _ _ e, target-most _ _ _ (c .before .target-of .ensures)))
 
 returns-2 : tie.Need-returns-2
 returns-2 c =

@@ -1,16 +1,13 @@
 -- `histogram::percentile::flat_percentile` meets its contract. Assumes nothing.
-use Rattle.spec.specs.Percentile.{flatPercentile}
-use borrow.Author.Needs.{needs}
+use Rattle.histogram.proofs.FindBin.{flat-above, flat-below}
 use Rattle.histogram.proofs.percentile.flat_percentile.Statement.{statement}
 use Rattle.histogram.proofs.percentile.flat_percentile.Tie as tie
 
 returns : tie.Need-returns
-unfolding flatPercentile
-returns c = rw (c .if1 .taken)
+returns c = flat-above _ _ (c .if1 .taken)
 
 returns-2 : tie.Need-returns-2
-unfolding flatPercentile
-returns-2 c = rw (c .if1 .left)
+returns-2 c = flat-below _ _ (c .if1 .left)
 
 pub flat-percentile-spec : {M : Type 1} → statement M
 flat-percentile-spec = tie.close (tie.spec returns returns-2)
