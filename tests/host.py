@@ -73,11 +73,11 @@ class Samples(Case):
         files = self.save("db.npy", db), self.save("m.npy", marks)
         told = json.loads(self.done("histogram", "--json", *files))
         valid = db[marks == 1]
-        self.assertEqual((told["min"], told["max"], len(told["counts"]), sum(told["counts"])), (valid.min(), valid.max(), 4096, valid.size))
+        self.assertEqual((told["valid"], told["min"], told["max"], len(told["counts"]), sum(told["counts"])), (valid.size, valid.min(), valid.max(), 4096, valid.size))
         bins = numpy.minimum(numpy.trunc((valid - valid.min()) * (1 / (valid.max() - valid.min())) * 4096), 4095).astype(int)
         self.assertEqual(told["counts"], numpy.bincount(bins, minlength=4096).tolist())
         lines = [line.split() for line in self.done("histogram", *files).splitlines()]
-        self.assertEqual([int(count) for _, count in lines[2:]], told["counts"])
+        self.assertEqual([int(count) for _, count in lines[3:]], told["counts"])
         stats = json.loads(self.done("stats", "--json", *files))
         for name, fraction in (("p05", 0.05), ("p95", 0.95)):
             before = sum(told["counts"][: stats[name + "_bin"]])

@@ -207,6 +207,11 @@ class Page(unittest.TestCase):
         for name, *values in rows:
             self.assertEqual([float(v) for v in values], [float(s[name.replace(" ", "_")]) for s in STATS], name)
 
+    def curve(self, canvas):
+        """The pixels of a drawn curve."""
+        picture = self.driver.execute_script("return arguments[0].toDataURL()", canvas)
+        return numpy.asarray(Image.open(io.BytesIO(base64.b64decode(picture.partition(",")[2]))).convert("RGBA")).astype(int)
+
     def test_curve_and_ticks(self):
         """The curve has a column for every eight of NumPy's bins, and the ticks stand in the bins that hold p05 and p95."""
         self.open()
@@ -217,8 +222,7 @@ class Page(unittest.TestCase):
             valid = db[marks == 1]
             bins = numpy.minimum(numpy.trunc((valid - valid.min()) * (1 / (valid.max() - valid.min())) * 4096), 4095).astype(int)
             counts = numpy.bincount(bins, minlength=4096)
-            picture = self.driver.execute_script("return arguments[0].toDataURL()", canvases[k])
-            pixels = numpy.asarray(Image.open(io.BytesIO(base64.b64decode(picture.partition(",")[2]))).convert("RGBA")).astype(int)
+            pixels = self.curve(canvases[k])
             bars = counts.reshape(512, 8).sum(axis=1)
             heights = numpy.where(bars > 0, numpy.maximum(1, 100 * numpy.sqrt(bars / bars.max())), 0)
             drawn = (pixels[:100, :, 3] > 0).sum(axis=0)
@@ -228,10 +232,36 @@ class Page(unittest.TestCase):
             for name, line in zip(("p05", "p95"), lines[2 * k : 2 * k + 2]):
                 bin_ = stats[f"{name}_bin"]
                 share = 100 * counts[:bin_].sum() / valid.size
-                self.assertEqual(line, f"{name}: {stats[name]:.2f} dB, bin {bin_}, {share:.2f} % of valid pixels in the bins below")
-                column = round((bin_ + 0.5) / 8 - 0.5)
-                self.assertTrue((pixels[111:115, column, 3] == 255).all(), "a tick below its bin")
-                self.assertEqual(int((pixels[112, :, 3] == 255).sum()), 2)
+                self.assertEqual(line, f"{name}: {stats[name]:.2f} dB, bin {bin_} of 4096, {share:.2f} % of valid pixels in the bins below")
+                self.assertIn(line, canvases[k].get_attribute("aria-label"))
+                column = min(510, max(0, round((bin_ + 0.5) / 8) - 1))
+                self.assertTrue((pixels[112:120, column : column + 2, 3] == 255).all(), "a tick below its bin")
+                self.assertEqual(int((pixels[112, :, 3] == 255).sum()), 4)
+                word = self.driver.find_elements(By.CSS_SELECTOR, ".ticks span")[2 * k + (name == "p95")]
+                self.assertEqual(word.text, name)
+                left, share_ = canvases[k].rect["x"], (bin_ + 0.5) / 4096
+                self.assertAlmostEqual(word.rect["x"] + share_ * word.rect["width"], left + share_ * canvases[k].rect["width"], delta=2)
+
+    def test_flat_and_blank(self):
+        """A flat band has all in the first column and two names that do not cover each other; a blank one has no curve and no tick."""
+        numpy.save(f"{FOLDER}/flat.npy", numpy.full((8, 9), 7.5))
+        numpy.save(f"{FOLDER}/all.npy", numpy.ones((8, 9), numpy.uint8))
+        numpy.save(f"{FOLDER}/none.npy", numpy.zeros((8, 9), numpy.uint8))
+        run("view", "flat.npy", "all.npy", "flat.npy", "none.npy", "--out", "flat.html")
+        self.open("flat.html")
+        flat, blank = (self.curve(canvas) for canvas in self.driver.find_elements(By.CSS_SELECTOR, "#histograms canvas"))
+        self.assertEqual((numpy.flatnonzero((flat[:100, :, 3] > 0).any(axis=0)) < 2).all(), True)
+        self.assertEqual(numpy.flatnonzero(flat[115, :, 3]).tolist(), [0, 1])
+        self.assertFalse(blank[:, :, 3].any())
+        lines = [line.text for line in self.driver.find_elements(By.CSS_SELECTOR, "#histograms li")]
+        self.assertEqual(lines, [f"{name}: 7.50 dB, bin 0 of 4096, 0.00 % of valid pixels in the bins below" for name in ("p05", "p95")])
+        first, second = (word.rect for word in self.driver.find_elements(By.CSS_SELECTOR, ".ticks span"))
+        self.assertLessEqual(first["y"] + first["height"], second["y"] + 4)
+        self.assertIn("Band 2: no valid pixel", [p.text for p in self.driver.find_elements(By.CSS_SELECTOR, "#histograms p")])
+
+    def test_one_band_has_one_curve(self):
+        self.open("one.html")
+        self.assertEqual([len(self.driver.find_elements(By.CSS_SELECTOR, f"#histograms {name}")) for name in ("canvas", "li")], [1, 2])
 
     def test_marks_zoom_save_and_night(self):
         self.open()

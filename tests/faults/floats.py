@@ -23,7 +23,7 @@ class Floats(Case):
 
     def test_every_mode(self):
         commands = [["stats", "db1.npy", "marks1.npy"], ["stats", "small.npy", "ones.npy"], ["window", "db1.npy", "marks1.npy", "--strategy", "adaptive"],
-                    ["window", "small.npy", "ones.npy"], ["stats", "scene.tif:1", "--marks", "auto"]]
+                    ["histogram", "db1.npy", "marks1.npy"], ["histogram", "small.npy", "ones.npy"], ["window", "small.npy", "ones.npy"], ["stats", "scene.tif:1", "--marks", "auto"]]
         told = [self.done(*words).stdout for words in commands]
         self.assertIn(b"mean", told[0])
         bytes_ = {}

@@ -10,7 +10,8 @@ class Streams(Case):
         with open(out or os.devnull, "w") as one, open(error or os.devnull, "w") as two:
             return subprocess.run([PROGRAM, *words], cwd=self.folder, stdout=one, stderr=two, stdin=subprocess.DEVNULL, timeout=60).returncode
 
-    COMMANDS = (["stats", "db1.npy", "marks1.npy"], ["stats", "db1.npy", "marks1.npy", "--json"], ["window", "db1.npy", "marks1.npy"], ["--help"], ["--version"],
+    COMMANDS = (["stats", "db1.npy", "marks1.npy"], ["stats", "db1.npy", "marks1.npy", "--json"], ["window", "db1.npy", "marks1.npy"],
+                ["histogram", "db1.npy", "marks1.npy"], ["histogram", "db1.npy", "marks1.npy", "--json"], ["--help"], ["--version"],
                 ["help", "grey"], ["demo", "d"])
 
     def test_full(self):

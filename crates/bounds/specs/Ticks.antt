@@ -2,17 +2,19 @@
 use Prim.Native.Nat.{ℕ, _+_, _<_}
 use mathlib.Core.Path.{_≡_}
 use mathlib.Core.Bool.{true, false}
-use mathlib.Core.List.{List}
-use lib.ListN.{length, getD, take}
+use mathlib.Core.List.{List, _∷_}
+use lib.ListN.{length, getD, take, replicate}
 use lib.Ieee.{Float}
+use Rattle.types.specs.declared.HistogramStats.{HistogramStats}
 use Rattle.types.specs.declared.Moments.{Moments}
 use Rattle.types.specs.declared.Percentile.{Percentile}
 use Rattle.spec.specs.Lists.{sumOf}
-use Rattle.spec.specs.Pixels.{Pixel, validOf}
+use Rattle.spec.specs.Answer.{done}
+use Rattle.spec.specs.Pixels.{Pixel, pixels, validOf}
 use Rattle.spec.specs.Moments.{noMoments, momentsFrom, isFlat}
 use Rattle.spec.specs.Percentile.{targetOf, estimatePercentile}
-use Rattle.spec.specs.Statistics.{gathered, statisticsOf}
-use Rattle.spec.specs.Curve.{curveOf}
+use Rattle.spec.specs.Statistics.{gathered, statisticsOf, computeHistogramStats}
+use Rattle.spec.specs.Curve.{curveOf, computeHistogram}
 
 abbrev pub momentsOf : List Pixel → Moments
 momentsOf px = momentsFrom noMoments (validOf px)
@@ -30,8 +32,17 @@ pub record Ticks : Type 0 where
   -- "0 and 0 for flat scenes and blank bands"
   pub flat : (px : List Pixel) → isFlat (momentsOf px) ≡ true → (p : Float) → (tick px p .bin ≡ 0) × (tick px p .rank ≡ 0)
   pub blank : (px : List Pixel) → length (validOf px) ≡ 0 → (p : Float) → (tick px p .bin ≡ 0) × (tick px p .rank ≡ 0)
+  -- a flat scene has all its valid pixels in bin 0
+  pub level : (px : List Pixel) → isFlat (momentsOf px) ≡ true → curveOf px ≡ length (validOf px) ∷ replicate 4095 0
   -- the curve has 4,096 counts, and they sum to the count
   pub size : (px : List Pixel) → length (curveOf px) ≡ 4096
   pub sum : (px : List Pixel) → sumOf (curveOf px) ≡ length (validOf px)
   -- the statistics are read off the curve
   pub read : (px : List Pixel) → statisticsOf px ≡ gathered (momentsOf px) (tick px)
+  -- the same of the two calls
+  pub call-sum :
+      (rows cols : ℕ) (marks : List ℕ) (db : List Float) (c : List ℕ) (s : HistogramStats) → computeHistogram rows cols marks db 4096 ≡ done c → computeHistogramStats rows cols marks db ≡ done s →
+      sumOf c ≡ s .«valid_count»
+  pub call-read :
+      (rows cols : ℕ) (marks : List ℕ) (db : List Float) (c : List ℕ) → computeHistogram rows cols marks db 4096 ≡ done c →
+      computeHistogramStats rows cols marks db ≡ done (gathered (momentsOf (pixels marks db)) (estimatePercentile (momentsOf (pixels marks db)) c))

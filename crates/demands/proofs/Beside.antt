@@ -33,7 +33,8 @@ use Rattle.spec.specs.Picture.{Picture, pictureGreys, composed, pictureTests, s
 use Rattle.lists.proofs.Counts.{Below, counts-sum}
 use Rattle.raster.proofs.Bands.{or-false}
 use Rattle.demands.specs.Beside.{withMean, withBins, Beside}
-use Rattle.demands.proofs.Accepted.{done-or-refused, done-same, done-answer, none-holds, all-clear, both-false, named-lengths}
+use Rattle.lists.proofs.Replies.{done-or-refused, done-same, done-answer, none-holds, all-clear, both-false}
+use Rattle.demands.proofs.Accepted.{named-lengths}
 use Rattle.demands.proofs.Counted.{count-marks}
 
 -- ---- the count

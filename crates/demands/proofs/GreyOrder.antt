@@ -31,7 +31,8 @@ use Rattle.numeric.proofs.Picks.{clamped-hi, toUnsigned-le}
 use Rattle.raster.proofs.Bands.{or-false, pixels-length}
 use Rattle.stretch.proofs.Rising.{stretch-rises}
 use Rattle.demands.specs.GreyOrder.{Ranked, GreyOrder}
-use Rattle.demands.proofs.Accepted.{done-answer, none-holds, named-lengths, good-at, good-finite}
+use Rattle.lists.proofs.Replies.{done-answer, none-holds}
+use Rattle.demands.proofs.Accepted.{named-lengths, good-at, good-finite}
 use Rattle.demands.proofs.Painted.{not-clahe, painter, values-map, values-size}
 use Rattle.demands.proofs.ValueOrder.{Finite, value8-order, value16-order}
 

@@ -75,6 +75,16 @@ same-numbers px qx p e f = summary-alike _ _ (same-moments (validOf px) (validOf
 
 -- ---- the statistics and the curve of a band
 
+-- answers to the same four tests
+each-alike : {A : Type 0} (R : Answer A → Answer A → Type 0) → ((k : ℕ) → R (refused k) (refused k)) → (a b c d : Bool) {s t : A} → (d ≡ false → R (done s) (done t)) →
+    R (answer (firstOf 1 (a ∷ b ∷ c ∷ d ∷ [])) s) (answer (firstOf 1 (a ∷ b ∷ c ∷ d ∷ [])) t)
+unfolding firstOf answer orRefused
+each-alike R r true b c d k = r 1
+each-alike R r false true c d k = r 2
+each-alike R r false false true d k = r 3
+each-alike R r false false false true k = r 4
+each-alike R r false false false false k = k refl
+
 module _ (ps : List ℕ) (n : ℕ) (o : Order ps n) (m : List ℕ) (d : List Float) (e : length m ≡ n) (f : length d ≡ n) (h : AreF64 d) where
   reordered-pixels : List·Permᴰ (pixels m d) (moved off ps (pixels m d))
   reordered-pixels = Permᴰ·symm (moved-perm off ps (pixels m d) (subst (Order ps) (sym (pixels-size ps n o m d e f)) o))
@@ -94,27 +104,14 @@ module _ (ps : List ℕ) (n : ℕ) (o : Order ps n) (m : List ℕ) (d : List Flo
     unfolding computeHistogramStats firstOf answer orRefused
     bins-same =
         rw (moved-pixels ps n o m d e f, named-moved ps n o rows cols m d e f, mark-moved ps n o m e, decibel-moved ps n o (pixels m d) (pixels-size ps n o m d e f))
-        (go (sidesRefused rows cols) (lengthsRefused rows cols m d) (marksRefused m) (decibelsRefused (pixels m d)) band-numbers)
-      where
-        go : (a b c g : Bool) {s t : HistogramStats} → (g ≡ false → SameNumbers s t) → SameBins (answer (firstOf 1 (a ∷ b ∷ c ∷ g ∷ [])) s) (answer (firstOf 1 (a ∷ b ∷ c ∷ g ∷ [])) t)
-        go true b c g k = refused-alike 1
-        go false true c g k = refused-alike 2
-        go false false true g k = refused-alike 3
-        go false false false true k = refused-alike 4
-        go false false false false k = same-bins (k refl .p05-bin) (k refl .p95-bin)
+        (each-alike SameBins refused-alike (sidesRefused rows cols) (lengthsRefused rows cols m d) (marksRefused m) (decibelsRefused (pixels m d))
+        (λ g. same-bins (band-numbers g .p05-bin) (band-numbers g .p95-bin)))
 
     curve-same : (out : ℕ) → computeHistogram rows cols (moved 0 ps m) (moved nan ps d) out ≡ computeHistogram rows cols m d out
     unfolding computeHistogram firstOf answer orRefused
     curve-same out =
         rw (moved-pixels ps n o m d e f, named-moved ps n o rows cols m d e f, mark-moved ps n o m e, decibel-moved ps n o (pixels m d) (pixels-size ps n o m d e f))
-        (go (sidesRefused rows cols) (lengthsRefused rows cols m d || unlike out 4096) (marksRefused m) (decibelsRefused (pixels m d)) band-curve)
-      where
-        go : (a b c g : Bool) {s t : List ℕ} → (g ≡ false → s ≡ t) → answer (firstOf 1 (a ∷ b ∷ c ∷ g ∷ [])) t ≡ answer (firstOf 1 (a ∷ b ∷ c ∷ g ∷ [])) s
-        go true b c g k = refl
-        go false true c g k = refl
-        go false false true g k = refl
-        go false false false true k = refl
-        go false false false false k = ap done (sym (k refl))
+        (each-alike _≡_ (λ k. refl) (sidesRefused rows cols) (lengthsRefused rows cols m d || unlike out 4096) (marksRefused m) (decibelsRefused (pixels m d)) (λ g. ap done (sym (band-curve g))))
 
 -- ---- a picture
 

@@ -94,17 +94,12 @@ record SamePercentile (q q′ : Percentile) : Type 0 where
   value : Alike (q .value) (q′ .value)
   bin : q .bin ≡ q′ .bin
 
-pick-percentile : (t t′ : Bool) → t ≡ t′ → {a a′ b b′ : Percentile} → SamePercentile a a′ → (t ≡ false → SamePercentile b b′) → SamePercentile (cond t a b) (cond t′ a′ b′)
-pick-percentile true true e f g = f
-pick-percentile false false e f g = g refl
-pick-percentile true false e f g = absurd (true≢false e)
-pick-percentile false true e f g = absurd (true≢false (sym e))
-
-pick-bins : (t t′ : Bool) → t ≡ t′ → {a a′ b b′ : List ℕ} → a ≡ a′ → (t ≡ false → b ≡ b′) → cond t a b ≡ cond t′ a′ b′
-pick-bins true true e f g = f
-pick-bins false false e f g = g refl
-pick-bins true false e f g = absurd (true≢false e)
-pick-bins false true e f g = absurd (true≢false (sym e))
+-- two choices by one test
+pick : {A : Type 0} (R : A → A → Type 0) (t t′ : Bool) → t ≡ t′ → {a a′ b b′ : A} → R a a′ → (t ≡ false → R b b′) → R (cond t a b) (cond t′ a′ b′)
+pick R true true e f g = f
+pick R false false e f g = g refl
+pick R true false e f g = absurd (true≢false e)
+pick R false true e f g = absurd (true≢false (sym e))
 
 module _ (s s′ : Moments) (h : SameMoments s s′) where
   gathered-alike : (f f′ : Float → Percentile) → ((p : Float) → SamePercentile (f p) (f′ p)) → SameNumbers (gathered s f) (gathered s′ f′)
@@ -148,7 +143,7 @@ module _ (s s′ : Moments) (h : SameMoments s s′) where
   -- the bins do not see a zero's sign, and counting does not see the order
   pub bins-alike : {vs vs′ : List Float} → List·Permᴰ vs vs′ → binsOf s vs ≡ binsOf s′ vs′
   unfolding binsOf histogram
-  bins-alike {vs} {vs′} o = pick-bins (isFlat s) (isFlat s′) flat-same (counts-perm 4096 (perm-map (λ v. 0) o)) spread
+  bins-alike {vs} {vs′} o = pick _≡_ (isFlat s) (isFlat s′) flat-same (counts-perm 4096 (perm-map (λ v. 0) o)) spread
     where
       spread : isFlat s ≡ false → counts 4096 (map (binOf (s .«min_db») (div binary64 one64 (spanOf s))) vs) ≡ counts 4096 (map (binOf (s′ .«min_db») (div binary64 one64 (spanOf s′))) vs′)
       spread e =
@@ -163,7 +158,7 @@ module _ (s s′ : Moments) (h : SameMoments s s′) where
   percentile-alike : (hist : List ℕ) (p : Float) → SamePercentile (estimatePercentile s hist p) (estimatePercentile s′ hist p)
   unfolding estimatePercentile
   percentile-alike hist p =
-      pick-percentile (isFlat s) (isFlat s′) flat-same (flat-alike p)
+      pick SamePercentile (isFlat s) (isFlat s′) flat-same (flat-alike p)
       (λ e. subst (λ (n : ℕ). SamePercentile (spreadPercentile s (findBin (targetOf p (s .count)) 0 0 hist)) (spreadPercentile s′ (findBin (targetOf p n) 0 0 hist))) (h .count)
       (spread-alike (findBin (targetOf p (s .count)) 0 0 hist) e))
 

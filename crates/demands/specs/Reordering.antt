@@ -1,4 +1,4 @@
--- Demand 3: "Nobody who reorders a two band scene can recolour it." Statements only: the proofs are in proofs/.
+-- Demand 3: "Nobody who reorders a two band scene can recolour it." Nor can who reorders a band move its bins. Statements only: the proofs are in proofs/.
 use Prim.Native.Nat.{ℕ, _+_, _*_, _<_}
 use mathlib.Core.Path.{_≡_}
 use mathlib.Core.List.{List, [], _∷_}

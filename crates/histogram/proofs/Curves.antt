@@ -4,7 +4,6 @@ use mathlib.Core.Bool.{Bool, true, false, not, _||_}
 use mathlib.Core.List.{List, [], _∷_}
 use Prim.Native.Nat.{ℕ}
 use native.Mathlib.Omega.{arith}
-use borrow.Author.Tests.{eq-eqb, ne-eqb}
 use lib.Dec.{eqb}
 use lib.ListN.{length}
 use lib.Ieee.{Float}
@@ -21,16 +20,6 @@ use Rattle.histogram.specs.Extremes.{extremesFrom}
 use Rattle.histogram.specs.Passes.{extremes}
 use Rattle.histogram.proofs.Extremes.{bins-extremes, extremes-count}
 use Rattle.histogram.proofs.Statistics.{pass-bad, pass-good, answer-refused, answer-done}
-
--- ---- a lent length
-
-pub named-not : (n k : ℕ) → (n ≡ k → ⊥) → unlike n k ≡ true
-unfolding unlike
-named-not n k d = ap not (ne-eqb n k d)
-
-pub named-is : (n k : ℕ) → n ≡ k → unlike n k ≡ false
-unfolding unlike
-named-is n k e = ap not (eq-eqb n k e)
 
 -- ---- the call
 

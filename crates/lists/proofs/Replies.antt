@@ -1,13 +1,13 @@
 -- A call that refuses by a number or is done: its reply, its lent list, and what is known where no number applies. Assumes nothing.
-use mathlib.Core.Path.{_≡_, refl}
-use mathlib.Core.Bool.{Bool, true, false, _||_}
-use mathlib.Core.List.{List, _∷_}
+use mathlib.Core.Path.{_≡_, refl, sym, ap}
+use mathlib.Core.Bool.{Bool, true, false, not, _||_, true≢false}
+use mathlib.Core.List.{List, [], _∷_}
 use Prim.Native.Nat.{ℕ, zero, suc, _≤_, _<_}
 use native.Mathlib.Nat.{not-suc-le-zero}
 use native.Mathlib.Omega.{arith}
-use borrow.Author.Tests.{eqb-true, not-false}
+use borrow.Author.Tests.{eqb-true, not-false, eq-eqb, ne-eqb}
 use lib.Dec.{eqb}
-use Rattle.spec.specs.Answer.{answer, orRefused, firstOf, number, after}
+use Rattle.spec.specs.Answer.{Answer, refused, done, answer, orRefused, firstOf, number, after}
 use Rattle.spec.specs.Refusals.{unlike}
 
 module _ {A B : Type 0} (f : A → List B) (a : A) (old : List B) where
@@ -56,3 +56,54 @@ or-right false t e = e
 pub not-unlike : (n m : ℕ) → unlike n m ≡ false → n ≡ m
 unfolding unlike
 not-unlike n m e = eqb-true n m (not-false (eqb n m) e)
+
+pub unlike-ne : (n m : ℕ) → (n ≡ m → ⊥) → unlike n m ≡ true
+unfolding unlike
+unlike-ne n m d = ap not (ne-eqb n m d)
+
+pub unlike-eq : (n m : ℕ) → n ≡ m → unlike n m ≡ false
+unfolding unlike
+unlike-eq n m e = ap not (eq-eqb n m e)
+
+-- ---- a call that is done
+
+is-done : {A : Type 0} → Answer A → Bool
+is-done (refused k) = false
+is-done (done a) = true
+
+given : {A : Type 0} → A → Answer A → A
+given a (refused k) = a
+given a (done b) = b
+
+pub done-or-refused : {A : Type 0} (k : ℕ) (a : Answer A) (b : A) → orRefused k a ≡ done b → (k ≡ 0) × (a ≡ done b)
+unfolding orRefused is-done
+done-or-refused zero a b e = (refl, e)
+done-or-refused (suc k) a b e = absurd (true≢false (sym (ap is-done e)))
+
+pub done-same : {A : Type 0} (a b : A) → done a ≡ done b → a ≡ b
+unfolding given
+done-same a b e = ap (given a) e
+
+pub done-answer : {A : Type 0} (k : ℕ) (a b : A) → answer k a ≡ done b → (k ≡ 0) × (a ≡ b)
+unfolding answer
+done-answer k a b e = let h = done-or-refused k (done a) b e in (h .0, done-same a b (h .1))
+
+-- none of the tests holds
+abbrev pub Clear : List Bool → Type 0
+Clear [] = Unit
+Clear (t ∷ ts) = (t ≡ false) × Clear ts
+
+pub none-holds : (k : ℕ) (ts : List Bool) → firstOf (suc k) ts ≡ 0 → Clear ts
+unfolding firstOf
+none-holds k [] e = tt
+none-holds k (true ∷ ts) e = absurd (omega (arith, e))
+none-holds k (false ∷ ts) e = (refl, none-holds (suc k) ts e)
+
+pub all-clear : (k : ℕ) (ts : List Bool) → Clear ts → firstOf k ts ≡ 0
+unfolding firstOf
+all-clear k [] h = refl
+all-clear k (true ∷ ts) h = absurd (true≢false (h .0))
+all-clear k (false ∷ ts) h = all-clear (suc k) ts (h .1)
+
+pub both-false : {a b : Bool} → a ≡ false → b ≡ false → (a || b) ≡ false
+both-false e f = rw (e, f) refl

@@ -38,7 +38,7 @@ abbrev pub words : Answer (List Float) → List ℕ
 words (refused k) = k ∷ []
 words (done xs) = 0 ∷ map (toBits binary32) xs
 
--- a record as its count and fifteen bit patterns
+-- a record as its count and fifteen bit patterns, which the Rust has
 abbrev pub statAnswer : Answer HistogramStats → List ℕ
 statAnswer (refused k) = k ∷ []
 statAnswer (done s) =

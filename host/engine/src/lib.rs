@@ -161,6 +161,14 @@ pub struct Statistics {
     pub p95_bin: u64,
 }
 
+/// A percentile with its bin on the curve.
+#[derive(Clone, Copy, Debug, PartialEq)]
+pub struct Tick {
+    pub name: &'static str,
+    pub db: f64,
+    pub bin: u64,
+}
+
 impl Statistics {
     /// From the whole numbers and the floats as the call writes them.
     fn from_lent(whole: [u64; 3], floats: [f64; 15]) -> Self {
@@ -207,6 +215,11 @@ impl Statistics {
             ("p98", self.p98),
             ("p99", self.p99),
         ]
+    }
+
+    /// The percentiles whose bins are known.
+    pub fn ticks(&self) -> [Tick; 2] {
+        [Tick { name: "p05", db: self.p05, bin: self.p05_bin }, Tick { name: "p95", db: self.p95, bin: self.p95_bin }]
     }
 }
 

@@ -240,6 +240,7 @@ fn named<S: Serializer>(statistics: &Statistics, serializer: S) -> Result<S::Ok,
 struct ToldHistogram<'a> {
     #[serde(flatten)]
     head: Head<'a>,
+    valid: u64,
     min: f64,
     max: f64,
     counts: &'a [u32],
@@ -273,11 +274,9 @@ fn stats(files: &BandFiles, as_json: bool) -> Outcome<()> {
     }
     let mut text = format!("{:<8}{}\n", "valid", statistics.valid_count);
     for (name, value) in statistics.named() {
-        match name {
-            "p05" => text.push_str(&format!("{name:<8}{value}  bin {}\n", statistics.p05_bin)),
-            "p95" => text.push_str(&format!("{name:<8}{value}  bin {}\n", statistics.p95_bin)),
-            _ => text.push_str(&format!("{name:<8}{value}\n")),
-        }
+        let tick = statistics.ticks().into_iter().find(|tick| tick.name == name);
+        let bin = tick.map_or(String::new(), |tick| format!("  bin {}", tick.bin));
+        text.push_str(&format!("{name:<8}{value}{bin}\n"));
     }
     print(&text)
 }
@@ -286,14 +285,14 @@ fn histogram(files: &BandFiles, as_json: bool) -> Outcome<()> {
     let scene = step("reading", || Scene::read(&files.files(), Wanted::One, &files.reading, &[]))?;
     let band = scene.bands[0].band();
     let refused = |refusal| explain::refused(refusal, &scene, AutoscaleStrategy::Default);
-    let Statistics { min_db: min, max_db: max, .. } =
+    let Statistics { valid_count: valid, min_db: min, max_db: max, .. } =
         step("statistics", || engine::statistics(scene.rows, scene.cols, band)).map_err(refused)?;
     let counts = step("histogram", || engine::histogram(scene.rows, scene.cols, band)).map_err(refused)?;
     scene.origin.unchanged()?;
     if as_json {
-        return print(&json::line(&ToldHistogram { head: Head::of(&scene), min, max, counts: &counts }));
+        return print(&json::line(&ToldHistogram { head: Head::of(&scene), valid, min, max, counts: &counts }));
     }
-    let mut text = format!("{:<8}{min}\n{:<8}{max}\n", "min", "max");
+    let mut text = format!("{:<8}{valid}\n{:<8}{min}\n{:<8}{max}\n", "valid", "min", "max");
     for (bin, count) in counts.iter().enumerate() {
         text.push_str(&format!("{bin:<8}{count}\n"));
     }

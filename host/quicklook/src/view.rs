@@ -12,7 +12,7 @@ use crate::progress::{note, step};
 use crate::scene::{Scene, Wanted};
 use crate::threads;
 use crate::trouble::{Outcome, Trouble};
-use engine::{Answer, AutoscaleStrategy, PictureOut, Statistics, SyntheticRgbMode, Window};
+use engine::{Answer, AutoscaleStrategy, PictureOut, Statistics, SyntheticRgbMode, Tick, Window};
 use flate2::Compression;
 use flate2::write::ZlibEncoder;
 use serde::Serialize;
@@ -152,7 +152,7 @@ struct Described<'a> {
     #[serde(skip_serializing_if = "Option::is_none")]
     crop: Option<[usize; 2]>,
     bands: usize,
-    statistic_names: Vec<&'static str>,
+    statistic_names: Vec<String>,
     /// Of each band the count, the fifteen floats and two bins; a float holds these whole numbers.
     statistics: Vec<Vec<f64>>,
     windows: Vec<Option<Ends>>,
@@ -175,12 +175,12 @@ struct Curve {
     min: f64,
     max: f64,
     counts: Vec<u32>,
-    ticks: [Tick; 2],
+    ticks: [ToldTick; 2],
 }
 
 /// A percentile on the curve.
 #[derive(Serialize)]
-struct Tick {
+struct ToldTick {
     name: &'static str,
     db: f64,
     bin: u64,
@@ -221,14 +221,14 @@ fn describe<'a>(
         cols,
         crop: scene.origin.crop.map(|crop| [crop.row, crop.col]),
         bands: bands.len(),
-        statistic_names: std::iter::once("valid")
-            .chain(statistics[0].named().map(|(name, _)| name))
-            .chain(["p05 bin", "p95 bin"])
+        statistic_names: std::iter::once("valid".to_owned())
+            .chain(statistics[0].named().map(|(name, _)| name.to_owned()))
+            .chain(statistics[0].ticks().map(|tick| format!("{} bin", tick.name)))
             .collect(),
         statistics: statistics
             .iter()
             .map(|s| {
-                let bins = [s.p05_bin as f64, s.p95_bin as f64];
+                let bins = s.ticks().map(|tick| tick.bin as f64);
                 std::iter::once(s.valid_count as f64).chain(s.named().map(|(_, value)| value)).chain(bins).collect()
             })
             .collect(),
@@ -274,8 +274,8 @@ fn ground(georeference: &Georeference, rows: usize, cols: usize) -> Outcome<Opti
 }
 
 fn curve(s: &Statistics, counts: Vec<u32>) -> Curve {
-    let tick = |name, db, bin: u64| Tick { name, db, bin, below: counts[..bin as usize].iter().copied().map(u64::from).sum() };
-    let ticks = [tick("p05", s.p05, s.p05_bin), tick("p95", s.p95, s.p95_bin)];
+    let below = |bin: u64| counts[..bin as usize].iter().copied().map(u64::from).sum();
+    let ticks = s.ticks().map(|Tick { name, db, bin }| ToldTick { name, db, bin, below: below(bin) });
     Curve { min: s.min_db, max: s.max_db, counts, ticks }
 }
 

@@ -106,7 +106,7 @@ def value_of(min_, width, bin_, w, h, step):
     return step.add(left, step.mul(step.div(float(w), float(h)), width))
 
 def flat_percentile(p, target, one):
-    """"median, p01 to p25 are min; p75 to p99 are max"; F-6's reading: "Flat: bin 0 and rank 0, whatever the target"."""
+    """"median, p01 to p25 are min; p75 to p99 are max"; decision 82: "bin and rank are 0 whatever the target"."""
     return Percentile(p, target, one.min if p in LOW_P else one.max, 0, 0)
 
 def percentile(p, one, span, counts, step):

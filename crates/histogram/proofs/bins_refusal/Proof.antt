@@ -3,7 +3,7 @@ use mathlib.Core.Path.{sym, _∙_}
 use borrow.Author.Needs.{needs}
 use Rattle.spec.specs.Answer.{firstOf}
 use Rattle.raster.proofs.Bands.{sides-accepted}
-use Rattle.histogram.proofs.Curves.{named-not, named-is}
+use Rattle.lists.proofs.Replies.{unlike-ne, unlike-eq}
 use Rattle.histogram.proofs.bins_refusal.Statement.{statement}
 use Rattle.histogram.proofs.bins_refusal.Tie as tie
 
@@ -25,7 +25,7 @@ unfolding firstOf
 returns-3 c =
     let l = c .before in
     let s = l .before .before in
-    rw (sym (s .before .sides-refused .ensures) ∙ s .if1 .left, sym (l .before .lengths-refused .ensures) ∙ l .if2 .left, named-not _ 4096 (c .if3 .taken))
+    rw (sym (s .before .sides-refused .ensures) ∙ s .if1 .left, sym (l .before .lengths-refused .ensures) ∙ l .if2 .left, unlike-ne _ 4096 (c .if3 .taken))
 
 returns-4 : tie.Need-returns-4
 unfolding firstOf
@@ -33,7 +33,7 @@ returns-4 c =
     let n = c .before .before in
     let l = n .before in
     let s = l .before .before in
-    rw (sym (s .before .sides-refused .ensures) ∙ s .if1 .left, sym (l .before .lengths-refused .ensures) ∙ l .if2 .left, named-is _ 4096 (n .if3 .left), sym (c .before .marks-refused .ensures) ∙ c .if4 .taken)
+    rw (sym (s .before .sides-refused .ensures) ∙ s .if1 .left, sym (l .before .lengths-refused .ensures) ∙ l .if2 .left, unlike-eq _ 4096 (n .if3 .left), sym (c .before .marks-refused .ensures) ∙ c .if4 .taken)
 
 returns-5 : tie.Need-returns-5
 unfolding firstOf
@@ -41,7 +41,7 @@ returns-5 c =
     let n = c .before .before in
     let l = n .before in
     let s = l .before .before in
-    rw (sym (s .before .sides-refused .ensures) ∙ s .if1 .left, sym (l .before .lengths-refused .ensures) ∙ l .if2 .left, named-is _ 4096 (n .if3 .left), sym (c .before .marks-refused .ensures) ∙ c .if4 .left)
+    rw (sym (s .before .sides-refused .ensures) ∙ s .if1 .left, sym (l .before .lengths-refused .ensures) ∙ l .if2 .left, unlike-eq _ 4096 (n .if3 .left), sym (c .before .marks-refused .ensures) ∙ c .if4 .left)
 
 pub bins-refusal-spec : {M : Type 1} → statement M
 bins-refusal-spec =

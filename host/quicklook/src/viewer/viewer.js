@@ -335,9 +335,10 @@ const Quicklook = (() => {
     }
   }
 
-  // The engine's counts, eight bins to a column, and below them a tick at each percentile that it has placed.
+  // The engine's counts, eight bins to a column, and below them a tick at each percentile that it has placed. Each tick's name has a line of
+  // its own, so that two in one bin can be read.
   function showHistograms() {
-    const columns = 512, foot = 110, tickFoot = 132;
+    const columns = 512, foot = 110, tickFoot = 120;
     const place = $("histograms");
     place.textContent = "";
     const style = getComputedStyle(document.documentElement);
@@ -354,33 +355,36 @@ const Quicklook = (() => {
         const height = count === 0 ? 0 : Math.max(1, 100 * Math.sqrt(count / most));
         g.fillRect(column, foot - height, 1, height);
       });
-      const x = (db) => h.max > h.min ? 512 * (db - h.min) / (h.max - h.min) : 0;
+      const x = (db) => h.max > h.min ? columns * (db - h.min) / (h.max - h.min) : 0;
+      const upright = (at, top, bottom) => g.fillRect(Math.min(columns - 2, Math.max(0, Math.round(at) - 1)), top, 2, bottom - top);
       const window_ = scene.windows[k];
       const caption = document.createElement("p");
       if (window_) {
         g.fillStyle = style.getPropertyValue("--mark");
-        for (const end of [window_.low, window_.high]) g.fillRect(Math.min(510, Math.max(0, Math.round(x(end)) - 1)), 0, 2, foot);
+        for (const end of [window_.low, window_.high]) upright(x(end), 0, foot);
         caption.textContent = `Band ${k + 1}: ${h.min.toFixed(2)} to ${h.max.toFixed(2)} dB, heights by square root; window from ${window_.low.toFixed(2)} to ${window_.high.toFixed(2)} dB`;
       } else {
         caption.textContent = `Band ${k + 1}: no valid pixel`;
       }
-      canvas.setAttribute("aria-label", caption.textContent);
-      place.append(canvas, caption);
+      const names = document.createElement("div"), ticks = document.createElement("ul");
+      names.className = "ticks";
+      names.setAttribute("aria-hidden", "true");
       const valid = scene.statistics[k][0];
-      if (valid === 0) return;
-      const ticks = document.createElement("ul");
       g.fillStyle = style.getPropertyValue("--accent");
-      g.font = "11px sans-serif";
-      for (const tick of h.ticks) {
-        const at = (tick.bin + 0.5) * columns / h.counts.length;
-        g.fillRect(Math.min(columns - 1, Math.round(at - 0.5)), foot - 6, 1, 12);
-        g.textAlign = at < 20 ? "left" : at > columns - 20 ? "right" : "center";
-        g.fillText(tick.name, at, tickFoot - 4);
-        const line = document.createElement("li");
-        line.textContent = `${tick.name}: ${tick.db.toFixed(2)} dB, bin ${tick.bin}, ${(100 * tick.below / valid).toFixed(2)} % of valid pixels in the bins below`;
+      for (const tick of valid === 0 ? [] : h.ticks) {
+        const share = (tick.bin + 0.5) / h.counts.length;
+        upright(share * columns, foot - 8, tickFoot);
+        const name = document.createElement("div"), word = document.createElement("span"), line = document.createElement("li");
+        word.textContent = tick.name;
+        word.style.left = `${100 * share}%`;
+        word.style.transform = `translateX(${-100 * share}%)`;
+        name.append(word);
+        names.append(name);
+        line.textContent = `${tick.name}: ${tick.db.toFixed(2)} dB, bin ${tick.bin} of ${h.counts.length}, ${(100 * tick.below / valid).toFixed(2)} % of valid pixels in the bins below`;
         ticks.append(line);
       }
-      place.append(ticks);
+      canvas.setAttribute("aria-label", [caption, ...ticks.children].map((element) => element.textContent).join("; "));
+      place.append(canvas, names, caption, ticks);
     });
   }
 

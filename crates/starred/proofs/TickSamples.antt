@@ -1,11 +1,11 @@
 -- The samples of F-6 hold, each by computation. Assumes nothing.
 use mathlib.Core.Path.{refl}
 use Rattle.starred.specs.Computing.{computing}
-use Rattle.starred.specs.Ticks.{Ticks}
+use Rattle.starred.specs.TickSamples.{TickSamples}
 
-pub ticks : Ticks
+pub tick-samples : TickSamples
 unfolding computing
-ticks =
+tick-samples =
     record {
       four-median = refl;
       four-p05 = refl;
