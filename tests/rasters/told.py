@@ -16,6 +16,14 @@ def flat(thing, found):
     return found
 
 
+def told(text):
+    """Every named number of a plain text: lines of a name and a value, behind it words with numbers of their own."""
+    for line in text.splitlines():
+        name, value, *more = line.split()
+        yield name, value
+        yield from ((f"{name}_{word}", number) for word, number in zip(more[::2], more[1::2], strict=True))
+
+
 class Json(Case):
     """The same numbers as the plain text."""
 
@@ -30,11 +38,11 @@ class Json(Case):
         for words in (("stats", two + ":2", marks), ("window", two + ":2", marks, "--strategy", "robust"),
                       ("window", two + ":2", marks, "--strategy", "standard"),
                       ("stats", two + ":2", "--marks", "auto"), ("window", two + ":2", "--marks", "auto", "--strategy", "tamed")):
-            found, plain = self.parsed(*words), self.done(*words).stdout.split()
+            found, plain = self.parsed(*words), list(told(self.done(*words).stdout))
             self.assertEqual((found["rows"], found["cols"], found["band"]), (20, 30, 2))
             self.assertIn("two bands.tif", found["file"])
-            self.assertGreaterEqual(len(plain), 8)
-            for key, text in zip(plain[::2], plain[1::2]):
+            self.assertEqual(len(plain), 18 if words[0] == "stats" else 4)
+            for key, text in plain:
                 self.assertEqual(float(found[key]), float(text), (words, key))
 
     def test_more(self):
@@ -44,8 +52,7 @@ class Json(Case):
         part = [self.save("part.npy", decibels(20, 30)[3:13, 4:16]), self.save("mpart.npy", marks_of(20, 30)[3:13, 4:16])]
         plain = self.done("stats", *part).stdout
         self.assertEqual(self.done("stats", db, marks, "--crop", "3,4,10,12").stdout, plain)
-        words = plain.split()
-        for key, text in zip(words[::2], words[1::2]):
+        for key, text in told(plain):
             self.assertEqual(float(found[key]), float(text), key)
         none = self.save("none.npy", numpy.zeros((20, 30), "u1"))
         for command in ("stats", "window"):
