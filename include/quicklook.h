@@ -50,7 +50,7 @@ enum quicklook_mode {
 #define QUICKLOOK_CLAHE_WORK 16384
 
 /* The whole numbers and the floats of the statistics, and the bins of the curve. */
-#define QUICKLOOK_STATISTICS_WHOLE 3
+#define QUICKLOOK_STATISTICS_WHOLE 5
 #define QUICKLOOK_STATISTICS_FLOATS 15
 #define QUICKLOOK_BINS 4096
 
@@ -61,9 +61,9 @@ enum quicklook_mode {
 uint8_t quicklook_marks(const float *processed, size_t processed_len, uint8_t *valid_mask, size_t valid_mask_len);
 
 /* Statistics of one band. db and valid_mask have n elements. whole are the number of 1 marks, the bin of p05 and the bin of p95, bins of the
- * curve that quicklook_histogram gives, from 0 on (three numbers; this call once wrote the count alone); floats are min, max, mean, std,
- * median, p01, p02, p05, p10, p25, p75, p90, p95, p98, p99. Both bins are 0 where max - min is below 2^-52, and without a 1 mark.
- * Answers 0 to 4. */
+ * curve that quicklook_histogram gives, from 0 on, and the row and the column of the first valid maximum in raster order, from 0 on too (five
+ * numbers; this call once wrote the count alone, then three); floats are min, max, mean, std, median, p01, p02, p05, p10, p25, p75, p90, p95,
+ * p98, p99. Both bins are 0 where max - min is below 2^-52; bins and place are 0 without a 1 mark. Answers 0 to 4. */
 uint8_t quicklook_statistics(size_t rows, size_t cols, const double *db, size_t db_len, const uint8_t *valid_mask, size_t valid_mask_len,
                              uint64_t whole[QUICKLOOK_STATISTICS_WHOLE], double floats[QUICKLOOK_STATISTICS_FLOATS]);
 

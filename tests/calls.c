@@ -53,7 +53,8 @@ static void statistics(void) {
     double db[2] = {0.0, 10.0}, floats[QUICKLOOK_STATISTICS_FLOATS];
     uint8_t mask[2] = {1, 1};
     uint64_t whole[QUICKLOOK_STATISTICS_WHOLE];
-    check(quicklook_statistics(1, 2, db, 2, mask, 2, whole, floats) == 0 && whole[0] == 2 && whole[1] == 0 && whole[2] == 4095 && floats[0] == 0.0 &&
+    check(quicklook_statistics(1, 2, db, 2, mask, 2, whole, floats) == 0 && whole[0] == 2 && whole[1] == 0 && whole[2] == 4095 && whole[3] == 0 &&
+              whole[4] == 1 && floats[0] == 0.0 &&
               floats[1] == 10.0 && floats[7] == 0.0 && floats[12] == 9.99755859375,
           "statistics of 0, 10");
     struct { size_t rows, cols, db, mask; int number; const char *what; } bad[] = {
@@ -70,10 +71,13 @@ static void statistics(void) {
     mask[1] = 1;
     check(quicklook_statistics(1, 2, db, 2, mask, 2, whole, floats) == 4 && all(whole, sizeof whole, 0x55), "a valid NaN");
     mask[0] = 0;
-    check(quicklook_statistics(1, 2, db, 2, mask, 2, whole, floats) == 0 && whole[0] == 1 && whole[1] == 0 && whole[2] == 0 && floats[0] == 10.0, "a NaN under a 0 mark");
+    check(quicklook_statistics(1, 2, db, 2, mask, 2, whole, floats) == 0 && whole[0] == 1 && whole[1] == 0 && whole[2] == 0 && whole[3] == 0 && whole[4] == 1 && floats[0] == 10.0, "a NaN under a 0 mark");
     mask[1] = 0;
     memset(whole, 0x55, sizeof whole);
-    check(quicklook_statistics(1, 2, db, 2, mask, 2, whole, floats) == 0 && whole[0] == 0 && whole[1] == 0 && whole[2] == 0 && floats[0] == 0.0 && floats[14] == 0.0, "no valid pixel");
+    check(quicklook_statistics(1, 2, db, 2, mask, 2, whole, floats) == 0 && all(whole, sizeof whole, 0) && floats[0] == 0.0 && floats[14] == 0.0, "no valid pixel");
+    double six[6] = {-3.0, 7.0, -0.0, 0.0, -0.0, 0.0};
+    uint8_t six_mask[6] = {1, 0, 1, 1, 1, 1};
+    check(quicklook_statistics(3, 2, six, 6, six_mask, 6, whole, floats) == 0 && whole[0] == 5 && whole[3] == 1 && whole[4] == 0, "of equals the first, -0 is 0");
 }
 
 static void histogram(void) {

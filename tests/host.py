@@ -64,7 +64,23 @@ class Samples(Case):
         self.assertEqual(len(found), 16)
         self.assertEqual((found["valid"], found["p05"], found["p95"]), (["2"], ["0", "bin", "0"], ["9.99755859375", "bin", "4095"]))
         told = json.loads(self.done("stats", "--json", self.at("db.npy"), self.at("m.npy")))
-        self.assertEqual((told["p05_bin"], told["p95_bin"]), (0, 4095))
+        self.assertEqual((told["p05_bin"], told["p95_bin"], told["max_row"], told["max_col"]), (0, 4095, 0, 1))
+        self.assertEqual(found["max"], ["10", "row", "0", "column", "1"])
+        blank = self.done("stats", self.at("db.npy"), self.save("none.npy", numpy.zeros((1, 2), numpy.uint8)))
+        self.assertIn("max     0\n", blank)
+
+    def test_strongest_echo(self):
+        """The first of NumPy's greatest valid decibels, also of a part."""
+        db = numpy.round(numpy.random.default_rng(5).normal(-12, 2, (31, 17)))
+        marks = (numpy.random.default_rng(6).uniform(size=db.shape) < 0.7).astype(numpy.uint8)
+        files = self.save("db.npy", db), self.save("m.npy", marks)
+        for rows, cols, words in ((slice(0, 31), slice(0, 17), ()), (slice(9, 21), slice(4, 16), ("--crop", "9,4,12,12"))):
+            part = numpy.where(marks == 1, db, -numpy.inf)[rows, cols]
+            row, col = numpy.unravel_index(part.argmax(), part.shape)
+            told = json.loads(self.done("stats", "--json", *files, *words))
+            self.assertEqual((told["max_row"], told["max_col"], told["max"]), (row, col, part[row, col]))
+            text = f"row {row} column {col}" + (f" (row {row + 9} column {col + 4} of the file)" if words else "")
+            self.assertIn(f"max     {part[row, col]:g}  {text}\n", self.done("stats", *files, *words))
 
     def test_histogram(self):
         """The counts are NumPy's over the same steps; a flat scene stands in bin 0, a blank one nowhere."""

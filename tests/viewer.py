@@ -203,12 +203,12 @@ class Page(unittest.TestCase):
     def test_statistics_and_window(self):
         self.open()
         rows = [[cell.text for cell in tr.find_elements(By.TAG_NAME, "td")] for tr in self.driver.find_elements(By.CSS_SELECTOR, "#statistics tr")][1:]
-        self.assertEqual(len(rows), 18)
+        self.assertEqual(len(rows), 20)
         for name, *values in rows:
-            self.assertEqual([float(v) for v in values], [float(s[name.replace(" ", "_")]) for s in STATS], name)
+            self.assertEqual([float(v) for v in values], [float(s[name.replace(" ", "_").replace("column", "col")]) for s in STATS], name)
 
-    def curve(self, canvas):
-        """The pixels of a drawn curve."""
+    def drawn(self, canvas):
+        """The pixels of a canvas."""
         picture = self.driver.execute_script("return arguments[0].toDataURL()", canvas)
         return numpy.asarray(Image.open(io.BytesIO(base64.b64decode(picture.partition(",")[2]))).convert("RGBA")).astype(int)
 
@@ -222,7 +222,7 @@ class Page(unittest.TestCase):
             valid = db[marks == 1]
             bins = numpy.minimum(numpy.trunc((valid - valid.min()) * (1 / (valid.max() - valid.min())) * 4096), 4095).astype(int)
             counts = numpy.bincount(bins, minlength=4096)
-            pixels = self.curve(canvases[k])
+            pixels = self.drawn(canvases[k])
             bars = counts.reshape(512, 8).sum(axis=1)
             heights = numpy.where(bars > 0, numpy.maximum(1, 100 * numpy.sqrt(bars / bars.max())), 0)
             drawn = (pixels[:100, :, 3] > 0).sum(axis=0)
@@ -249,7 +249,7 @@ class Page(unittest.TestCase):
         numpy.save(f"{FOLDER}/none.npy", numpy.zeros((8, 9), numpy.uint8))
         run("view", "flat.npy", "all.npy", "flat.npy", "none.npy", "--out", "flat.html")
         self.open("flat.html")
-        flat, blank = (self.curve(canvas) for canvas in self.driver.find_elements(By.CSS_SELECTOR, "#histograms canvas"))
+        flat, blank = (self.drawn(canvas) for canvas in self.driver.find_elements(By.CSS_SELECTOR, "#histograms canvas"))
         self.assertEqual((numpy.flatnonzero((flat[:100, :, 3] > 0).any(axis=0)) < 2).all(), True)
         self.assertEqual(numpy.flatnonzero(flat[115, :, 3]).tolist(), [0, 1])
         self.assertFalse(blank[:, :, 3].any())
@@ -257,11 +257,84 @@ class Page(unittest.TestCase):
         self.assertEqual(lines, [f"{name}: 7.50 dB, bin 0 of 4096, 0.00 % of valid pixels in the bins below" for name in ("p05", "p95")])
         first, second = (word.rect for word in self.driver.find_elements(By.CSS_SELECTOR, ".ticks span"))
         self.assertLessEqual(first["y"] + first["height"], second["y"] + 4)
+        rows = [[cell.text for cell in tr.find_elements(By.TAG_NAME, "td")] for tr in self.driver.find_elements(By.CSS_SELECTOR, "#strongest tbody tr")]
+        self.assertEqual([row[:4] for row in rows], [["1", "0", "0", "7.5"], ["2", "–", "–", "no valid pixel"]])
+        self.press("b", "b", "e")
+        self.assertEqual([self.text("at-row"), self.text("at-column")], ["0", "0"])
         self.assertIn("Band 2: no valid pixel", [p.text for p in self.driver.find_elements(By.CSS_SELECTOR, "#histograms p")])
 
     def test_one_band_has_one_curve(self):
         self.open("one.html")
         self.assertEqual([len(self.driver.find_elements(By.CSS_SELECTOR, f"#histograms {name}")) for name in ("canvas", "li")], [1, 2])
+
+    def test_strongest_echo(self):
+        """Told, ringed, shown and hidden: the first of NumPy's greatest valid decibels in each band."""
+        self.open()
+        rows = [[cell.text for cell in tr.find_elements(By.TAG_NAME, "td")] for tr in self.driver.find_elements(By.CSS_SELECTOR, "#strongest tbody tr")]
+        spots = []
+        for k, (db, marks) in enumerate(zip(DB, MARKS)):
+            spot = numpy.unravel_index(numpy.argmax(numpy.where(marks == 1, db, -numpy.inf)), db.shape)
+            spots.append(tuple(int(at) for at in spot))
+            self.assertEqual(rows[k][:3], [str(k + 1), *map(str, spots[k])])
+            self.assertEqual(float(rows[k][3]), db[spot])
+        screen = self.driver.find_element(By.ID, "screen")
+        ringed = self.drawn(screen)
+        self.press("e")
+        self.assertEqual(self.driver.find_element(By.ID, "echoes").get_attribute("aria-pressed"), "false")
+        changed = numpy.argwhere((self.drawn(screen) != ringed).any(axis=2))
+        left, top, scale = self.driver.execute_script("const s = Quicklook.state; return [s.left, s.top, s.scale]")
+        for row, col in spots:
+            apart = numpy.hypot(changed[:, 0] - top - (row + 0.5) * scale, changed[:, 1] - left - (col + 0.5) * scale)
+            self.assertLess(apart.min(), 25)
+            self.assertGreater((apart < 25).sum(), 40)
+        far = numpy.min([numpy.hypot(changed[:, 0] - top - (row + 0.5) * scale, changed[:, 1] - left - (col + 0.5) * scale) for row, col in spots], axis=0)
+        self.assertLess(far.max(), 60)
+        self.press("+", "+", "+", "+", "+", "+", "b")
+        for row, col in (spots[0], spots[1], spots[0]):
+            self.assertEqual([self.text("at-row"), self.text("at-column")], [str(row), str(col)])
+            left, top, scale, width, height = self.driver.execute_script(
+                "const s = Quicklook.state, c = document.getElementById('screen'); return [s.left, s.top, s.scale, c.width, c.height]")
+            self.assertAlmostEqual(left + (col + 0.5) * scale, width / 2)
+            self.assertAlmostEqual(top + (row + 0.5) * scale, height / 2)
+            self.press("b")
+        self.press("3", "b", "b")
+        self.assertEqual([self.text("at-row"), self.text("at-column")], [str(at) for at in spots[1]])
+        if SHOTS:
+            self.press("1", "0", "e")
+            self.driver.save_screenshot(f"{SHOTS}/echoes.png")
+
+    def test_strongest_echo_of_blank_bands_and_crops(self):
+        """A blank band names no place and has no ring; a crop names the file's row and column too; two echoes at one pixel are both told."""
+        numpy.save(f"{FOLDER}/none.npy", numpy.zeros((ROWS, COLS), numpy.uint8))
+        run("view", "db1.npy", "none.npy", "db1.npy", "marks1.npy", "--strategy", "robust", "--out", "blank.html")
+        self.open("blank.html")
+        table = lambda: [[cell.text for cell in tr.find_elements(By.TAG_NAME, "td")] for tr in self.driver.find_elements(By.CSS_SELECTOR, "#strongest tbody tr")]
+        row, col = (int(at) for at in numpy.unravel_index(numpy.argmax(numpy.where(MARKS[0] == 1, DB[0], -numpy.inf)), DB[0].shape))
+        self.assertEqual(table()[0][:4], ["1", "–", "–", "no valid pixel"])
+        self.assertEqual(table()[1][:3], ["2", str(row), str(col)])
+        self.press("b", "b")
+        self.assertEqual([self.text("at-row"), self.text("at-column")], [str(row), str(col)])
+        self.press("2", "b")
+        screen = self.driver.find_element(By.ID, "screen")
+        plain = self.drawn(screen)
+        self.press("e")
+        self.assertTrue((self.drawn(screen) == plain).all())
+        run("view", "db1.npy", "marks1.npy", "db1.npy", "marks1.npy", "--strategy", "robust", "--crop", f"{row - 1},{col - 2},3,4", "--out", "cropped.html")
+        self.open("cropped.html")
+        for band in (0, 1):
+            self.assertEqual([" ".join(cell.split()) for cell in table()[band][:3]], [str(band + 1), f"1 ({row} in the file)", f"2 ({col} in the file)"])
+        self.assertLessEqual(self.driver.execute_script("const a = document.querySelector('aside'); return a.scrollWidth - a.clientWidth"), 0)
+        if SHOTS:
+            self.driver.save_screenshot(f"{SHOTS}/coinciding.png")
+
+    def test_header_of_any_height(self):
+        """The picture keeps its shape, and the pointer its row, when the lines above the stage grow."""
+        self.open()
+        for words in (1, 60, 200, 1):
+            self.driver.execute_script("document.getElementById('about').textContent = 'word '.repeat(arguments[0])", words)
+            self.wait("(() => { const c = document.getElementById('screen'), b = c.getBoundingClientRect(); return c.width === Math.round(b.width * devicePixelRatio) && c.height === Math.round(b.height * devicePixelRatio); })()", 5)
+            self.point_at(50, 64)
+            self.assert_read(50, 64)
 
     def test_marks_zoom_save_and_night(self):
         self.open()

@@ -19,9 +19,9 @@ def flat(thing, found):
 def told(text):
     """Every named number of a plain text: lines of a name and a value, behind it words with numbers of their own."""
     for line in text.splitlines():
-        name, value, *more = line.split()
+        name, value, *more = line.partition(" (")[0].split()
         yield name, value
-        yield from ((f"{name}_{word}", number) for word, number in zip(more[::2], more[1::2], strict=True))
+        yield from ((f"{name}_{word}".replace("column", "col"), number) for word, number in zip(more[::2], more[1::2], strict=True))
 
 
 class Json(Case):
@@ -41,7 +41,7 @@ class Json(Case):
             found, plain = self.parsed(*words), list(told(self.done(*words).stdout))
             self.assertEqual((found["rows"], found["cols"], found["band"]), (20, 30, 2))
             self.assertIn("two bands.tif", found["file"])
-            self.assertEqual(len(plain), 18 if words[0] == "stats" else 4)
+            self.assertEqual(len(plain), 20 if words[0] == "stats" else 4)
             for key, text in plain:
                 self.assertEqual(float(found[key]), float(text), (words, key))
 
@@ -51,6 +51,8 @@ class Json(Case):
         self.assertEqual((found["rows"], found["cols"]), (10, 12))
         part = [self.save("part.npy", decibels(20, 30)[3:13, 4:16]), self.save("mpart.npy", marks_of(20, 30)[3:13, 4:16])]
         plain = self.done("stats", *part).stdout
+        row, col = found["max_row"], found["max_col"]
+        plain = plain.replace(f"row {row} column {col}", f"row {row} column {col} (row {row + 3} column {col + 4} of the file)")
         self.assertEqual(self.done("stats", db, marks, "--crop", "3,4,10,12").stdout, plain)
         for key, text in told(plain):
             self.assertEqual(float(found[key]), float(text), key)

@@ -85,12 +85,12 @@ fn statistics(tally: &mut Tally, scene: &Scene) {
     let (ours, theirs) = bands(scene);
     let sides = Sides { rows: scene.rows, cols: scene.cols };
     for k in 0..2 {
-        let mut whole = [77; 3];
+        let mut whole = [77; engine::WHOLE];
         let mut found = [0.5; 15];
         let answer = engine::codes::statistics(scene.rows, scene.cols, ours[k], &mut whole, &mut found);
         let right = match oracle::statistics(sides, theirs[k]) {
             Ok(s) => answer.is_ok() && whole[0] == s.valid_count as u64 && found.iter().zip(s.floats).all(|(&a, b)| same(a, b)),
-            Err(n) => engine_number(&answer) == n && whole == [77; 3] && found == [0.5; 15],
+            Err(n) => engine_number(&answer) == n && whole == [77; engine::WHOLE] && found == [0.5; 15],
         };
         tally.check(right, || format!("statistics of {}", describe(scene)));
     }

@@ -11,6 +11,7 @@ use Rattle.types.specs.declared.HistogramStats.{HistogramStats}
 use Rattle.types.proofs.AutoscaleStrategy.{the-type}
 use Rattle.spec.specs.Moments.{noMoments}
 use Rattle.spec.specs.Pixels.{Pixel, validOf}
+use Rattle.spec.specs.Strongest.{nowhere}
 use Rattle.spec.specs.Statistics.{deviationOf, summary, summaryOf, statisticsOf}
 use Rattle.spec.specs.Strategies.{isTamed}
 use Rattle.spec.specs.Floats.{zero64}
@@ -47,7 +48,7 @@ for-any : {A : Type 0} (f : HistogramStats → A) (strategy : AutoscaleStrategy)
 unfolding statsFor statisticsOf
 for-any f strategy px h = go (readsMean strategy) refl
   where
-    go : (b : Bool) → readsMean strategy ≡ b → f (cond b (summaryOf (validOf px)) (summary (extremesFrom noMoments (validOf px)) (validOf px))) ≡ f (summaryOf (validOf px))
+    go : (b : Bool) → readsMean strategy ≡ b → f (cond b (summaryOf (validOf px)) (summary (extremesFrom noMoments (validOf px)) nowhere (validOf px))) ≡ f (summaryOf (validOf px))
     go true e = refl
     go false e = ap f (summary-extremes (validOf px)) ∙ h e zero64 (deviationOf (extremesFrom noMoments (validOf px))) (summaryOf (validOf px))
 

@@ -16,6 +16,7 @@ use Rattle.spec.specs.Answer.{Answer, refused, firstOf, orRefused}
 use Rattle.spec.specs.Moments.{noMoments, momentsFrom}
 use Rattle.spec.specs.Pixels.{Pixel, pixels, validOf}
 use Rattle.spec.specs.Refusals.{sidesRefused, lengthsRefused, marksRefused, decibelsRefused}
+use Rattle.spec.specs.Strongest.{nowhere}
 use Rattle.spec.specs.Statistics.{summary, summaryOf, statisticsOf}
 use Rattle.spec.specs.Window.{windowOf, pictureWindow, readWindow, autoscaleWindow}
 use Rattle.raster.proofs.Bands.{first-stays, first-later, first-here, first-not-here, first-none}
@@ -45,12 +46,12 @@ pass-is strategy px = go (readsMean strategy)
     go true = refl
     go false = refl
 
-stats-is : (strategy : AutoscaleStrategy) (px : List Pixel) → summary (momentsFor strategy px) (validOf px) ≡ statsFor strategy px
+stats-is : (strategy : AutoscaleStrategy) (px : List Pixel) → summary (momentsFor strategy px) nowhere (validOf px) ≡ statsFor strategy px
 unfolding statsFor statisticsOf summaryOf
 stats-is strategy px = go (readsMean strategy)
   where
-    go : (b : Bool) → summary (cond b (momentsFrom noMoments (validOf px)) (extremesFrom noMoments (validOf px))) (validOf px)
-        ≡ cond b (summary (momentsFrom noMoments (validOf px)) (validOf px)) (summary (extremesFrom noMoments (validOf px)) (validOf px))
+    go : (b : Bool) → summary (cond b (momentsFrom noMoments (validOf px)) (extremesFrom noMoments (validOf px))) nowhere (validOf px)
+        ≡ cond b (summary (momentsFrom noMoments (validOf px)) nowhere (validOf px)) (summary (extremesFrom noMoments (validOf px)) nowhere (validOf px))
     go true = refl
     go false = refl
 
@@ -67,12 +68,12 @@ pub stats-refused : (strategy : AutoscaleStrategy) (px : List Pixel) → passFor
 unfolding bandStats
 stats-refused strategy px e = rw (pass-bad px (momentsFor strategy px) (sym (pass-is strategy px) ∙ e))
 
-pub stats-passed : (strategy : AutoscaleStrategy) (px : List Pixel) (m : Moments) (r : HistogramStats) → passFor strategy px ≡ Passed m → r ≡ summary m (validOf px) →
+pub stats-passed : (strategy : AutoscaleStrategy) (px : List Pixel) (m : Moments) (r : HistogramStats) → passFor strategy px ≡ Passed m → r ≡ summary m nowhere (validOf px) →
     Statistics r ≡ bandStats strategy px
 unfolding bandStats
 stats-passed strategy px m r e q =
     let g = pass-good px (momentsFor strategy px) m (sym (pass-is strategy px) ∙ e) in
-    ap Statistics (q ∙ ap (λ (t : Moments). summary t (validOf px)) (sym (g .1)) ∙ stats-is strategy px) ∙ rw (g .0)
+    ap Statistics (q ∙ ap (λ (t : Moments). summary t nowhere (validOf px)) (sym (g .1)) ∙ stats-is strategy px) ∙ rw (g .0)
 
 -- ---- the window, by the statistics
 stats-bad : (b : Bool) (s : HistogramStats) (k : ℕ) → cond b (StatisticsRefused 4) (Statistics s) ≡ StatisticsRefused k → b ≡ true

@@ -11,6 +11,7 @@ use Rattle.types.specs.declared.WindowAnswer.the-variants.{Refused}
 use Rattle.spec.specs.Moments.{noMoments}
 use Rattle.spec.specs.Pixels.{Pixel, validOf}
 use Rattle.spec.specs.Refusals.{decibelsRefused}
+use Rattle.spec.specs.Strongest.{nowhere}
 use Rattle.spec.specs.Statistics.{summary, statisticsOf}
 use Rattle.spec.specs.Window.{windowOf, pictureWindow}
 use Rattle.histogram.specs.Extremes.{extremesFrom}
@@ -27,7 +28,7 @@ readsMean Default = false
 
 -- the statistics, with mean and deviation left out where no rule reads them
 unfoldable pub statsFor : AutoscaleStrategy → List Pixel → HistogramStats
-statsFor strategy px = cond (readsMean strategy) (statisticsOf px) (summary (extremesFrom noMoments (validOf px)) (validOf px))
+statsFor strategy px = cond (readsMean strategy) (statisticsOf px) (summary (extremesFrom noMoments (validOf px)) nowhere (validOf px))
 
 -- or refused with 4
 unfoldable pub bandStats : AutoscaleStrategy → List Pixel → StatisticsAnswer

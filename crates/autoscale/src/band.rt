@@ -1,6 +1,7 @@
-// The window of a band from its dB and marks. Mean and deviation are worked out only for the strategy that reads them.
+// The window of a band from its dB and marks. Mean and deviation are worked out only for the strategy that reads them, the place of the maximum for none.
 use histogram::moments::FirstPass;
 use types::AutoscaleStrategy;
+use types::Place;
 use types::StatisticsAnswer;
 use types::WindowAnswer;
 ghost use mathlib.Core.Path.{_≡_};
@@ -40,7 +41,12 @@ fn band_stats(strategy: AutoscaleStrategy, db: &[f64], valid_mask: &[u8]) -> Sta
     let FirstPass::Passed(m) = strategy_pass(strategy, db, valid_mask) else {
         return StatisticsAnswer::Refused(4);
     };
-    StatisticsAnswer::Statistics(histogram::summary(db, valid_mask, m))
+    StatisticsAnswer::Statistics(histogram::summary(
+        db,
+        valid_mask,
+        m,
+        Place { row: 0, col: 0 },
+    ))
 }
 
 // The window of such a band.

@@ -4,10 +4,10 @@ use lib.Dec.{lit≤}
 use lib.Ieee.{Float}
 use Rattle.types.specs.declared.HistogramStats.{HistogramStats}
 use Rattle.spec.specs.Pixels.{pixels}
-use Rattle.spec.specs.Statistics.{statisticsOf}
+use Rattle.spec.specs.Statistics.{statisticsOf, placedStatistics}
 use Rattle.numeric.proofs.Within.{Within, within-weaken}
 use Rattle.bounds.specs.Bounds.{Between, Percentiles, BoundedStatistics, StatisticsBounded, PercentilesLeast, WindowsBounded}
-use Rattle.bounds.proofs.Statistics.{Bounded, accepted-bounded, accepted-least}
+use Rattle.bounds.proofs.Statistics.{Bounded, accepted-bounded, placed-bounded, placed-least}
 use Rattle.bounds.proofs.Windows.{ends, window-bounded, picture-window-bounded}
 
 each : (P Q : Float → Type 0) → ((x : Float) → P x → Q x) → (s : HistogramStats) → Percentiles P s → Percentiles Q s
@@ -38,11 +38,11 @@ bounded s b =
 
 pub statistics-bounded : StatisticsBounded
 unfolding StatisticsBounded
-statistics-bounded marks db a = bounded (statisticsOf (pixels marks db)) (accepted-bounded marks db a)
+statistics-bounded cols marks db a = bounded (placedStatistics cols (pixels marks db)) (placed-bounded marks db a cols)
 
 pub percentiles-least : PercentilesLeast
 unfolding PercentilesLeast
-percentiles-least marks db a = accepted-least marks db a
+percentiles-least cols marks db a = placed-least marks db a cols
 
 pub windows-bounded : WindowsBounded
 unfolding WindowsBounded

@@ -19,6 +19,7 @@ use lib.Ieee.Positive.{num, den, den-pos}
 use lib.Ieee.Scale.{finite}
 use Rattle.types.specs.declared.BinRank.{BinRank}
 use Rattle.types.specs.declared.Percentile.{Percentile}
+use Rattle.types.specs.declared.Place.{Place}
 use Rattle.types.specs.declared.HistogramStats.{HistogramStats}
 use Rattle.types.specs.declared.Moments.{Moments}
 use Rattle.spec.specs.Floats.{zero64, half64, ofCount}
@@ -27,7 +28,8 @@ use Rattle.spec.specs.Lists.{sumOf, any}
 use Rattle.spec.specs.Moments.{noMoments, momentsFrom, spanOf, isFlat}
 use Rattle.spec.specs.Percentile.{targetOf, findBin, valueAt, flatPercentile, spreadPercentile, estimatePercentile}
 use Rattle.spec.specs.Root.{sqrtFloat}
-use Rattle.spec.specs.Statistics.{deviationOf, gathered, summary, summaryOf, statisticsOf}
+use Rattle.spec.specs.Statistics.{deviationOf, gathered, summary, summaryOf, statisticsOf, placedStatistics}
+use Rattle.spec.specs.Strongest.{strongest, placeIn, nowhere}
 use Rattle.spec.specs.Pixels.{off, on, pixel, pixels, validOf}
 use Rattle.spec.specs.Refusals.{decibelRefused, decibelsRefused}
 use Rattle.numeric.proofs.Facts.{thousand, minus-thousand}
@@ -400,18 +402,18 @@ pub record Bounded (r : HistogramStats) : Type 0 where
   pub deviation : Within 2000 (r .«std_db»)
   pub percentiles : Percentiles (Within 2000) r
 
-gathered-all : (P : Float → Type 0) (s : Moments) (p : Float → Percentile) → ((q : Float) → P (p q .value)) → Percentiles P (gathered s p)
+gathered-all : (P : Float → Type 0) (s : Moments) (place : Place) (p : Float → Percentile) → ((q : Float) → P (p q .value)) → Percentiles P (gathered s place p)
 unfolding gathered
-gathered-all P s p h = record { median = h _; p01 = h _; p02 = h _; p05 = h _; p10 = h _; p25 = h _; p75 = h _; p90 = h _; p95 = h _; p98 = h _; p99 = h _ }
+gathered-all P s place p h = record { median = h _; p01 = h _; p02 = h _; p05 = h _; p10 = h _; p25 = h _; p75 = h _; p90 = h _; p95 = h _; p98 = h _; p99 = h _ }
 
-gathered-bounded : (s : Moments) → s .count ≤ 16777216 → Sound s → (p : Float → Percentile) → ((q : Float) → Within 2000 (p q .value)) → Bounded (gathered s p)
+gathered-bounded : (s : Moments) (place : Place) → s .count ≤ 16777216 → Sound s → (p : Float → Percentile) → ((q : Float) → Within 2000 (p q .value)) → Bounded (gathered s place p)
 unfolding gathered
-gathered-bounded s l o p h =
-    record { least = o .least-within; greatest = o .greatest-within; mean = o .mean-within; deviation = deviation-within s l o; percentiles = gathered-all (Within 2000) s p h }
+gathered-bounded s place l o p h =
+    record { least = o .least-within; greatest = o .greatest-within; mean = o .mean-within; deviation = deviation-within s l o; percentiles = gathered-all (Within 2000) s place p h }
 
-gathered-least : (s : Moments) (p : Float → Percentile) → ((q : Float) → T (le (s .«min_db») (p q .value))) → Percentiles (λ x. T (le (gathered s p .«min_db») x)) (gathered s p)
+gathered-least : (s : Moments) (place : Place) (p : Float → Percentile) → ((q : Float) → T (le (s .«min_db») (p q .value))) → Percentiles (λ x. T (le (gathered s place p .«min_db») x)) (gathered s place p)
 unfolding gathered
-gathered-least s p h = gathered-all (λ x. T (le (s .«min_db») x)) s p h
+gathered-least s place p h = gathered-all (λ x. T (le (s .«min_db») x)) s place p h
 
 pub none-flat : (vs : List Float) → length vs ≡ 0 → isFlat (momentsFrom noMoments vs) ≡ true
 unfolding isFlat spanOf momentsFrom noMoments ofBits sub lt
@@ -437,17 +439,17 @@ module _ (vs : List Float) (l : length vs ≤ 16777216) (e : Each Decibel vs) wh
   o = sound-moments vs l e
 
   -- "bounds on every field"
-  stats-bounded : Bounded (summaryOf vs)
-  unfolding summaryOf summary
-  stats-bounded =
-      gathered-bounded s few o (estimatePercentile s (binsOf s vs))
+  stats-bounded : (place : Place) → Bounded (summary s place vs)
+  unfolding summary
+  stats-bounded place =
+      gathered-bounded s place few o (estimatePercentile s (binsOf s vs))
       (λ p. percentile-all s o vs (none-count vs) l p (Within 2000) (flat-within s o p) (λ a. spread-within s o vs (none-count vs) l p (some vs a)))
 
   -- "every percentile is at least min"
-  stats-least : Percentiles (λ x. T (le (summaryOf vs .«min_db») x)) (summaryOf vs)
-  unfolding summaryOf summary
-  stats-least =
-      gathered-least s (estimatePercentile s (binsOf s vs))
+  stats-least : (place : Place) → Percentiles (λ x. T (le (summary s place vs .«min_db») x)) (summary s place vs)
+  unfolding summary
+  stats-least place =
+      gathered-least s place (estimatePercentile s (binsOf s vs))
       (λ p. percentile-all s o vs (none-count vs) l p (λ x. T (le (s .«min_db») x)) (flat-least s o p) (λ a. spread-least s o vs (none-count vs) l p (some vs a)))
 
 -- ---- of a band that is not refused
@@ -484,10 +486,16 @@ module _ (m : List ℕ) (d : List Float) (a : Accepted m d) where
   good : Each Decibel (validOf (pixels m d))
   good = valid-decibels m d (a .are-f64) (a .not-refused)
 
+  -- of what windows read
   pub accepted-bounded : Bounded (statisticsOf (pixels m d))
-  unfolding statisticsOf
-  accepted-bounded = stats-bounded (validOf (pixels m d)) few-valid good
+  unfolding statisticsOf summaryOf
+  accepted-bounded = stats-bounded (validOf (pixels m d)) few-valid good nowhere
 
-  pub accepted-least : Percentiles (λ x. T (le (statisticsOf (pixels m d) .«min_db») x)) (statisticsOf (pixels m d))
-  unfolding statisticsOf
-  accepted-least = stats-least (validOf (pixels m d)) few-valid good
+  -- of what the statistics call tells
+  pub placed-bounded : (cols : ℕ) → Bounded (placedStatistics cols (pixels m d))
+  unfolding placedStatistics
+  placed-bounded cols = stats-bounded (validOf (pixels m d)) few-valid good (placeIn cols (strongest (pixels m d)))
+
+  pub placed-least : (cols : ℕ) → Percentiles (λ x. T (le (placedStatistics cols (pixels m d) .«min_db») x)) (placedStatistics cols (pixels m d))
+  unfolding placedStatistics
+  placed-least cols = stats-least (validOf (pixels m d)) few-valid good (placeIn cols (strongest (pixels m d)))

@@ -15,7 +15,8 @@ use Rattle.spec.specs.Pixels.{Pixel, pixels, validOf}
 use Rattle.spec.specs.Refusals.{sidesRefused, unlike, lengthsRefused, marksRefused, decibelsRefused}
 use Rattle.spec.specs.Moments.{isFlat}
 use Rattle.spec.specs.Percentile.{targetOf, findBin, flatPercentile, spreadPercentile, estimatePercentile}
-use Rattle.spec.specs.Statistics.{gathered, summary, summaryOf, statisticsOf, computeHistogramStats}
+use Rattle.spec.specs.Statistics.{gathered, summary, placedStatistics, computeHistogramStats}
+use Rattle.spec.specs.Strongest.{strongest, placeIn}
 use Rattle.spec.specs.Curve.{curveOf, computeHistogram}
 use Rattle.lists.proofs.Replies.{or-left, done-same, done-answer, none-holds, all-clear}
 use Rattle.histogram.proofs.Counting.{none-count}
@@ -58,9 +59,9 @@ level-is px e = sym (flat-filled (momentsOf px) (validOf px) e (replicate 4096 0
 
 -- ---- the two calls
 
-counted : (px : List Pixel) → sumOf (curveOf px) ≡ statisticsOf px .«valid_count»
-unfolding curveOf statisticsOf summaryOf summary gathered
-counted px = bins-sum (momentsOf px) (validOf px) ∙ sym (none-count (validOf px))
+counted : (cols : ℕ) (px : List Pixel) → sumOf (curveOf px) ≡ placedStatistics cols px .«valid_count»
+unfolding curveOf placedStatistics summary gathered
+counted cols px = bins-sum (momentsOf px) (validOf px) ∙ sym (none-count (validOf px))
 
 -- where the one is done so is the other, which has the same tests but for the length of the lent list
 both : {A B : Type 0} (a b c d : Bool) (x y : A) (z : B) → answer (firstOf 1 (a ∷ (b || unlike 4096 4096) ∷ c ∷ d ∷ [])) x ≡ done y →
@@ -73,21 +74,21 @@ both a b c d x y z e =
     (h .1, ap (λ (k : ℕ). answer k z) none)
 
 module _ (rows cols : ℕ) (marks : List ℕ) (db : List Float) (c : List ℕ) (e : computeHistogram rows cols marks db 4096 ≡ done c) where
-  curve-and-record : (curveOf (pixels marks db) ≡ c) × (computeHistogramStats rows cols marks db ≡ done (statisticsOf (pixels marks db)))
+  curve-and-record : (curveOf (pixels marks db) ≡ c) × (computeHistogramStats rows cols marks db ≡ done (placedStatistics cols (pixels marks db)))
   unfolding computeHistogram computeHistogramStats
   curve-and-record = both (sidesRefused rows cols) (lengthsRefused rows cols marks db) (marksRefused marks) (decibelsRefused (pixels marks db)) _ c _ e
 
-  call-read-is : computeHistogramStats rows cols marks db ≡ done (gathered (momentsOf (pixels marks db)) (estimatePercentile (momentsOf (pixels marks db)) c))
-  unfolding curveOf statisticsOf summaryOf summary
+  call-read-is : computeHistogramStats rows cols marks db ≡ done (gathered (momentsOf (pixels marks db)) (placeIn cols (strongest (pixels marks db))) (estimatePercentile (momentsOf (pixels marks db)) c))
+  unfolding curveOf placedStatistics summary
   call-read-is =
-      curve-and-record .1 ∙ ap (λ (l : List ℕ). done (gathered (momentsOf (pixels marks db)) (estimatePercentile (momentsOf (pixels marks db)) l))) (curve-and-record .0)
+      curve-and-record .1 ∙ ap (λ (l : List ℕ). done (gathered (momentsOf (pixels marks db)) (placeIn cols (strongest (pixels marks db))) (estimatePercentile (momentsOf (pixels marks db)) l))) (curve-and-record .0)
 
   call-sum-is : (s : HistogramStats) → computeHistogramStats rows cols marks db ≡ done s → sumOf c ≡ s .«valid_count»
   call-sum-is s f =
-      ap sumOf (sym (curve-and-record .0)) ∙ counted (pixels marks db) ∙ ap (λ (r : HistogramStats). r .«valid_count») (done-same _ s (sym (curve-and-record .1) ∙ f))
+      ap sumOf (sym (curve-and-record .0)) ∙ counted cols (pixels marks db) ∙ ap (λ (r : HistogramStats). r .«valid_count») (done-same _ s (sym (curve-and-record .1) ∙ f))
 
 pub ticks : Ticks
-unfolding curveOf statisticsOf summaryOf summary
+unfolding curveOf placedStatistics summary
 ticks =
     record {
       target = λ px e p. target-is px p e;
@@ -97,7 +98,7 @@ ticks =
       size = λ px. bins-length (momentsOf px) (validOf px);
       sum = λ px. bins-sum (momentsOf px) (validOf px);
       level = level-is;
-      read = λ px. refl;
+      read = λ cols px. refl;
       call-sum = λ rows cols marks db c s e f. call-sum-is rows cols marks db c e s f;
       call-read = call-read-is;
     }

@@ -13,7 +13,7 @@ use Rattle.types.specs.declared.WindowAnswer.the-variants.{Window, Blank, Refus
 use Rattle.spec.specs.Floats.{ofCount}
 use Rattle.spec.specs.Pixels.{pixels}
 use Rattle.spec.specs.Refusals.{decibelsRefused}
-use Rattle.spec.specs.Statistics.{statisticsOf}
+use Rattle.spec.specs.Statistics.{statisticsOf, placedStatistics}
 use Rattle.spec.specs.Window.{windowOf, pictureWindow}
 
 -- from -n to n, both ends included. No comparison with a NaN holds, so x is finite and no NaN.
@@ -52,11 +52,11 @@ pub record BoundedStatistics (s : HistogramStats) : Type 0 where
 
 -- every float of the statistics is bounded
 unfoldable pub StatisticsBounded : Type 0
-StatisticsBounded = (marks : List ℕ) (db : List Float) → Accepted marks db → BoundedStatistics (statisticsOf (pixels marks db))
+StatisticsBounded = (cols : ℕ) (marks : List ℕ) (db : List Float) → Accepted marks db → BoundedStatistics (placedStatistics cols (pixels marks db))
 
 -- every percentile is at least the least value
 unfoldable pub PercentilesLeast : Type 0
-PercentilesLeast = (marks : List ℕ) (db : List Float) → Accepted marks db → Percentiles (λ x. T (le (statisticsOf (pixels marks db) .«min_db») x)) (statisticsOf (pixels marks db))
+PercentilesLeast = (cols : ℕ) (marks : List ℕ) (db : List Float) → Accepted marks db → Percentiles (λ x. T (le (placedStatistics cols (pixels marks db) .«min_db») x)) (placedStatistics cols (pixels marks db))
 
 -- ---- the windows
 

@@ -13,7 +13,8 @@ use Rattle.spec.specs.Answer.{done}
 use Rattle.spec.specs.Pixels.{Pixel, pixels, validOf}
 use Rattle.spec.specs.Moments.{noMoments, momentsFrom, isFlat}
 use Rattle.spec.specs.Percentile.{targetOf, estimatePercentile}
-use Rattle.spec.specs.Statistics.{gathered, statisticsOf, computeHistogramStats}
+use Rattle.spec.specs.Statistics.{gathered, placedStatistics, computeHistogramStats}
+use Rattle.spec.specs.Strongest.{strongest, placeIn}
 use Rattle.spec.specs.Curve.{curveOf, computeHistogram}
 
 abbrev pub momentsOf : List Pixel → Moments
@@ -38,11 +39,11 @@ pub record Ticks : Type 0 where
   pub size : (px : List Pixel) → length (curveOf px) ≡ 4096
   pub sum : (px : List Pixel) → sumOf (curveOf px) ≡ length (validOf px)
   -- the statistics are read off the curve
-  pub read : (px : List Pixel) → statisticsOf px ≡ gathered (momentsOf px) (tick px)
+  pub read : (cols : ℕ) (px : List Pixel) → placedStatistics cols px ≡ gathered (momentsOf px) (placeIn cols (strongest px)) (tick px)
   -- the same of the two calls
   pub call-sum :
       (rows cols : ℕ) (marks : List ℕ) (db : List Float) (c : List ℕ) (s : HistogramStats) → computeHistogram rows cols marks db 4096 ≡ done c → computeHistogramStats rows cols marks db ≡ done s →
       sumOf c ≡ s .«valid_count»
   pub call-read :
       (rows cols : ℕ) (marks : List ℕ) (db : List Float) (c : List ℕ) → computeHistogram rows cols marks db 4096 ≡ done c →
-      computeHistogramStats rows cols marks db ≡ done (gathered (momentsOf (pixels marks db)) (estimatePercentile (momentsOf (pixels marks db)) c))
+      computeHistogramStats rows cols marks db ≡ done (gathered (momentsOf (pixels marks db)) (placeIn cols (strongest (pixels marks db))) (estimatePercentile (momentsOf (pixels marks db)) c))

@@ -1,5 +1,5 @@
 -- What stands beside the three claims. Assumes nothing.
-use mathlib.Core.Path.{_≡_, refl, sym, ap, _∙_}
+use mathlib.Core.Path.{_≡_, refl, sym, ap, _∙_, subst}
 use mathlib.Core.Bool.{Bool, true, false, cond, _||_, true≢false}
 use mathlib.Core.List.{List, [], _∷_, map}
 use Prim.Native.Nat.{ℕ, zero, suc, _*_, suc-le-suc}
@@ -22,7 +22,8 @@ use Rattle.spec.specs.Pixels.{pixels}
 use Rattle.spec.specs.Refusals.{sidesRefused, lengthsRefused, unlike, workRefused, marksRefused, decibelsRefused, tilesRefused}
 use Rattle.spec.specs.Strategies.{isTamed}
 use Rattle.spec.specs.Bins.{binOf, histogram}
-use Rattle.spec.specs.Statistics.{statisticsOf, computeHistogramStats}
+use Rattle.spec.specs.Statistics.{gathered, summary, summaryOf, statisticsOf, placedStatistics, computeHistogramStats}
+use Rattle.spec.specs.Strongest.{strongest, placeIn, nowhere}
 use Rattle.spec.specs.Window.{validRange, lowContrastClip, heavyTailedClip, highRangeClip, normalClip, standardClip, robustClip, skewFactor, tailHeaviness, adaptiveClip, chooseClip, tamedClip, opened, windowOf, pictureWindow, gammaRefused, readWindow, autoscaleWindow}
 use Rattle.spec.specs.Value.{full8}
 use Rattle.spec.specs.Stretch.{stretch}
@@ -32,7 +33,7 @@ use Rattle.types.specs.declared.Lent.{Lent}
 use Rattle.spec.specs.Picture.{Picture, pictureGreys, composed, pictureTests, syntheticRgbPicture}
 use Rattle.lists.proofs.Counts.{Below, counts-sum}
 use Rattle.raster.proofs.Bands.{or-false}
-use Rattle.demands.specs.Beside.{withMean, withBins, Beside}
+use Rattle.demands.specs.Beside.{withMean, withBins, withPlace, Beside}
 use Rattle.lists.proofs.Replies.{done-or-refused, done-same, done-answer, none-holds, all-clear, both-false}
 use Rattle.demands.proofs.Accepted.{named-lengths}
 use Rattle.demands.proofs.Counted.{count-marks}
@@ -40,11 +41,11 @@ use Rattle.demands.proofs.Counted.{count-marks}
 -- ---- the count
 
 count-is : (rows cols : ℕ) (m : List ℕ) (d : List Float) (s : HistogramStats) → computeHistogramStats rows cols m d ≡ done s → s .«valid_count» ≡ countOf 1 m
-unfolding computeHistogramStats
+unfolding computeHistogramStats placedStatistics
 count-is rows cols m d s e =
     let h = done-answer _ _ _ e in
     let a = none-holds 0 _ (h .0) in
-    ap (λ (t : HistogramStats). t .«valid_count») (sym (h .1)) ∙ count-marks m d (named-lengths rows cols m d (a .1 .0)) (a .1 .1 .0)
+    ap (λ (t : HistogramStats). t .«valid_count») (sym (h .1)) ∙ count-marks m d (placeIn cols (strongest (pixels m d))) (named-lengths rows cols m d (a .1 .0)) (a .1 .1 .0)
 
 bins-below : (least inv : Float) (vs : List Float) → Below 4096 (map (binOf least inv) vs)
 unfolding binOf
@@ -79,7 +80,8 @@ blank-only false c e = let z = ap length (done-same _ _ e) in absurd (omega (ari
 
 module _ (strategy : AutoscaleStrategy) (rows cols : ℕ) (m : List ℕ) (d : List Float) where
   named : firstOf 1 (sidesRefused rows cols ∷ lengthsRefused rows cols m d ∷ marksRefused m ∷ decibelsRefused (pixels m d) ∷ []) ≡ 0 → statisticsOf (pixels m d) .«valid_count» ≡ countOf 1 m
-  named e = let a = none-holds 0 _ e in count-marks m d (named-lengths rows cols m d (a .1 .0)) (a .1 .1 .0)
+  unfolding statisticsOf summaryOf
+  named e = let a = none-holds 0 _ e in count-marks m d nowhere (named-lengths rows cols m d (a .1 .0)) (a .1 .1 .0)
 
   is-blank : number (autoscaleWindow strategy rows cols m d) ≡ 0 → countOf 1 m ≡ 0 → autoscaleWindow strategy rows cols m d ≡ done []
   unfolding autoscaleWindow windowOf
@@ -147,6 +149,37 @@ unfolding pictureWindow
 picture-window-bins-unread strategy copol s b05 b95 =
     ap (λ (c : Clip). cond (eqb (s .«valid_count») 0) Blank (opened (cond (isTamed strategy) c (chooseClip strategy (withBins b05 b95 s))))) (tamedClip-bins-unread copol s b05 b95)
     ∙ ap (λ (c : Clip). cond (eqb (s .«valid_count») 0) Blank (opened (cond (isTamed strategy) (tamedClip copol s) c))) (clip-bins-unread strategy s b05 b95)
+
+-- ---- the place
+
+clip-place-unread : (strategy : AutoscaleStrategy) (s : HistogramStats) (row col : ℕ) → chooseClip strategy (withPlace row col s) ≡ chooseClip strategy s
+unfolding chooseClip standardClip robustClip adaptiveClip skewFactor tailHeaviness validRange lowContrastClip heavyTailedClip highRangeClip normalClip
+clip-place-unread Standard s row col = refl
+clip-place-unread Robust s row col = refl
+clip-place-unread Adaptive s row col = refl
+clip-place-unread Equalized s row col = refl
+clip-place-unread Clahe s row col = refl
+clip-place-unread Tamed s row col = refl
+clip-place-unread Default s row col = refl
+
+tamedClip-place-unread : (copol : Bool) (s : HistogramStats) (row col : ℕ) → tamedClip copol (withPlace row col s) ≡ tamedClip copol s
+unfolding tamedClip
+tamedClip-place-unread true s row col = refl
+tamedClip-place-unread false s row col = refl
+
+window-place-unread : (strategy : AutoscaleStrategy) (s : HistogramStats) (row col : ℕ) → windowOf strategy (withPlace row col s) ≡ windowOf strategy s
+unfolding windowOf
+window-place-unread strategy s row col = ap (λ (c : Clip). cond (eqb (s .«valid_count») 0) Blank (opened c)) (clip-place-unread strategy s row col)
+
+picture-window-place-unread : (strategy : AutoscaleStrategy) (copol : Bool) (s : HistogramStats) (row col : ℕ) → pictureWindow strategy copol (withPlace row col s) ≡ pictureWindow strategy copol s
+unfolding pictureWindow
+picture-window-place-unread strategy copol s row col =
+    ap (λ (c : Clip). cond (eqb (s .«valid_count») 0) Blank (opened (cond (isTamed strategy) c (chooseClip strategy (withPlace row col s))))) (tamedClip-place-unread copol s row col)
+    ∙ ap (λ (c : Clip). cond (eqb (s .«valid_count») 0) Blank (opened (cond (isTamed strategy) (tamedClip copol s) c))) (clip-place-unread strategy s row col)
+
+placed-is : (rows cols : ℕ) (m : List ℕ) (d : List Float) (s : HistogramStats) → computeHistogramStats rows cols m d ≡ done s → s ≡ withPlace (s .«max_row») (s .«max_col») (statisticsOf (pixels m d))
+unfolding computeHistogramStats placedStatistics statisticsOf summaryOf summary gathered
+placed-is rows cols m d s e = subst (λ (t : HistogramStats). t ≡ withPlace (t .«max_row») (t .«max_col») (statisticsOf (pixels m d))) (done-answer _ _ _ e .1) refl
 
 -- ---- the greys of a picture
 
@@ -216,6 +249,9 @@ beside =
       picture-mean-unread = picture-unread;
       bins-unread = window-bins-unread;
       picture-bins-unread = picture-window-bins-unread;
+      place-unread = window-place-unread;
+      picture-place-unread = picture-window-place-unread;
+      placed = placed-is;
       picture-greys = λ strategy n mode rows cols m1 d1 m2 d2 lent. picture-grey strategy (not-tamed strategy n) mode rows cols m1 d1 m2 d2 lent;
       picture-modes = λ strategy mode mode′ rows cols m1 d1 m2 d2 lent. refl;
       composition-modes = λ strategy mode mode′ band1 band2 out. refl;

@@ -9,3 +9,4 @@ pub mod Steadiness
 pub mod Moved
 pub mod Reordering
 pub mod Beside
+pub mod Echo

@@ -10,6 +10,7 @@ use lib.ListN.{length, getD}
 use lib.Ieee.{Float, nan}
 use Rattle.types.specs.declared.AutoscaleStrategy.{AutoscaleStrategy}
 use Rattle.types.specs.declared.SyntheticRgbMode.{SyntheticRgbMode}
+use Rattle.types.specs.declared.Place.{Place}
 use Rattle.types.specs.declared.Rgb.{Rgb}
 use Rattle.spec.specs.Number.{Alike, same}
 use Rattle.types.specs.declared.HistogramStats.{HistogramStats}
@@ -18,7 +19,8 @@ use Rattle.spec.specs.Lists.{any}
 use Rattle.spec.specs.Pixels.{Pixel, off, on, pixel, pixels, validOf}
 use Rattle.spec.specs.Refusals.{sidesRefused, unlike, lengthsRefused, marksRefused, decibelRefused, decibelsRefused}
 use Rattle.spec.specs.Moments.{noMoments, withValue, momentsFrom}
-use Rattle.spec.specs.Statistics.{statisticsOf, summaryOf, computeHistogramStats}
+use Rattle.spec.specs.Statistics.{summary, summaryOf, statisticsOf, placedStatistics, computeHistogramStats}
+use Rattle.spec.specs.Strongest.{nowhere}
 use Rattle.spec.specs.Curve.{curveOf, computeHistogram}
 use Rattle.spec.specs.Colour.{bytesOf}
 use Rattle.types.specs.declared.Lent.{Lent}
@@ -37,7 +39,7 @@ use Rattle.demands.proofs.Moved.{win, pixels-size, moved-pixels, named-
 
 -- ---- valid values are numbers, and floats of the format
 
-valid-numbers : (px : List Pixel) → any decibelRefused px ≡ false → Each Number (validOf px)
+pub valid-numbers : (px : List Pixel) → any decibelRefused px ≡ false → Each Number (validOf px)
 unfolding validOf any
 valid-numbers [] e = tt
 valid-numbers (off ∷ px) e = valid-numbers px (or-false (decibelRefused off) (any decibelRefused px) e .1)
@@ -69,9 +71,10 @@ same-moments (v ∷ vs) (w ∷ ws) p a b =
     alike : {x y x′ y′ : Float} → x ≡ x′ → y ≡ y′ → Alike x′ y′ → Alike x y
     alike {y} {x′} e f h = subst (λ (z : Float). Alike z y) (sym e) (subst (λ (z : Float). Alike x′ z) (sym f) h)
 
-same-numbers : (px qx : List Pixel) → List·Permᴰ px qx → decibelsRefused px ≡ false → Each Fits (validOf px) → SameNumbers (statisticsOf px) (statisticsOf qx)
-unfolding statisticsOf summaryOf decibelsRefused
-same-numbers px qx p e f = summary-alike _ _ (same-moments (validOf px) (validOf qx) (valid-perm p) (valid-numbers px e) f) (valid-perm p)
+same-numbers : (px qx : List Pixel) (place place′ : Place) → List·Permᴰ px qx → decibelsRefused px ≡ false → Each Fits (validOf px) →
+    SameNumbers (summary (momentsFrom noMoments (validOf px)) place (validOf px)) (summary (momentsFrom noMoments (validOf qx)) place′ (validOf qx))
+unfolding decibelsRefused
+same-numbers px qx place place′ p e f = summary-alike _ _ (same-moments (validOf px) (validOf qx) (valid-perm p) (valid-numbers px e) f) place place′ (valid-perm p)
 
 -- ---- the statistics and the curve of a band
 
@@ -89,8 +92,9 @@ module _ (ps : List ℕ) (n : ℕ) (o : Order ps n) (m : List ℕ) (d : List Flo
   reordered-pixels : List·Permᴰ (pixels m d) (moved off ps (pixels m d))
   reordered-pixels = Permᴰ·symm (moved-perm off ps (pixels m d) (subst (Order ps) (sym (pixels-size ps n o m d e f)) o))
 
-  band-numbers : decibelsRefused (pixels m d) ≡ false → SameNumbers (statisticsOf (pixels m d)) (statisticsOf (moved off ps (pixels m d)))
-  band-numbers g = same-numbers (pixels m d) (moved off ps (pixels m d)) reordered-pixels g (valid-fits m d h)
+  band-numbers : (place place′ : Place) → decibelsRefused (pixels m d) ≡ false →
+      SameNumbers (summary (momentsFrom noMoments (validOf (pixels m d))) place (validOf (pixels m d))) (summary (momentsFrom noMoments (validOf (moved off ps (pixels m d)))) place′ (validOf (moved off ps (pixels m d))))
+  band-numbers place place′ g = same-numbers (pixels m d) (moved off ps (pixels m d)) place place′ reordered-pixels g (valid-fits m d h)
 
   band-curve : decibelsRefused (pixels m d) ≡ false → curveOf (pixels m d) ≡ curveOf (moved off ps (pixels m d))
   unfolding curveOf decibelsRefused
@@ -101,11 +105,11 @@ module _ (ps : List ℕ) (n : ℕ) (o : Order ps n) (m : List ℕ) (d : List Flo
   -- the tests of a band are the same ones
   module _ (rows cols : ℕ) where
     bins-same : SameBins (computeHistogramStats rows cols m d) (computeHistogramStats rows cols (moved 0 ps m) (moved nan ps d))
-    unfolding computeHistogramStats firstOf answer orRefused
+    unfolding computeHistogramStats placedStatistics firstOf answer orRefused
     bins-same =
         rw (moved-pixels ps n o m d e f, named-moved ps n o rows cols m d e f, mark-moved ps n o m e, decibel-moved ps n o (pixels m d) (pixels-size ps n o m d e f))
         (each-alike SameBins refused-alike (sidesRefused rows cols) (lengthsRefused rows cols m d) (marksRefused m) (decibelsRefused (pixels m d))
-        (λ g. same-bins (band-numbers g .p05-bin) (band-numbers g .p95-bin)))
+        (λ g. same-bins (band-numbers _ _ g .p05-bin) (band-numbers _ _ g .p95-bin)))
 
     curve-same : (out : ℕ) → computeHistogram rows cols (moved 0 ps m) (moved nan ps d) out ≡ computeHistogram rows cols m d out
     unfolding computeHistogram firstOf answer orRefused
@@ -118,7 +122,8 @@ module _ (ps : List ℕ) (n : ℕ) (o : Order ps n) (m : List ℕ) (d : List Flo
 module _ (ps : List ℕ) (n : ℕ) (o : Order ps n) (strategy : AutoscaleStrategy) (r : Reorders strategy) where
   band-steady : (copol : Bool) (m : List ℕ) (d : List Float) → length m ≡ n → length d ≡ n → AreF64 d → decibelsRefused (pixels m d) ≡ false →
       Steady (win strategy copol (moved off ps (pixels m d))) (win strategy copol (pixels m d))
-  band-steady copol m d e f h g = steady-sym (window-steady strategy (r .0) copol _ _ (band-numbers ps n o m d e f h g))
+  unfolding statisticsOf summaryOf
+  band-steady copol m d e f h g = steady-sym (window-steady strategy (r .0) copol _ _ (band-numbers ps n o m d e f h nowhere nowhere g))
     where
       steady-sym : {w w′ : _} → Steady w w′ → Steady w′ w
       steady-sym s = record { gamma = sym (s .gamma); paints = λ full p. sym (s .paints full p) }

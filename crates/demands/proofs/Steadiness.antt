@@ -14,6 +14,7 @@ use Rattle.types.specs.declared.Clip.{Clip}
 use Rattle.types.specs.declared.HistogramStats.{HistogramStats}
 use Rattle.types.specs.declared.Moments.{Moments}
 use Rattle.types.specs.declared.Percentile.{Percentile}
+use Rattle.types.specs.declared.Place.{Place}
 use Rattle.types.specs.declared.WindowAnswer.{WindowAnswer}
 use Rattle.types.specs.declared.WindowAnswer.the-variants.{Blank}
 use Rattle.spec.specs.Floats.{half64, one64, two64, maxFloat}
@@ -102,9 +103,9 @@ pick R true false e f g = absurd (true≢false e)
 pick R false true e f g = absurd (true≢false (sym e))
 
 module _ (s s′ : Moments) (h : SameMoments s s′) where
-  gathered-alike : (f f′ : Float → Percentile) → ((p : Float) → SamePercentile (f p) (f′ p)) → SameNumbers (gathered s f) (gathered s′ f′)
+  gathered-alike : (place place′ : Place) (f f′ : Float → Percentile) → ((p : Float) → SamePercentile (f p) (f′ p)) → SameNumbers (gathered s place f) (gathered s′ place′ f′)
   unfolding gathered
-  gathered-alike f f′ a =
+  gathered-alike place place′ f f′ a =
       record {
         count = h .count;
         least = h .least;
@@ -163,11 +164,11 @@ module _ (s s′ : Moments) (h : SameMoments s s′) where
       (spread-alike (findBin (targetOf p (s .count)) 0 0 hist) e))
 
   -- of two reordered lists of values
-  pub summary-alike : {vs vs′ : List Float} → List·Permᴰ vs vs′ → SameNumbers (summary s vs) (summary s′ vs′)
+  pub summary-alike : (place place′ : Place) {vs vs′ : List Float} → List·Permᴰ vs vs′ → SameNumbers (summary s place vs) (summary s′ place′ vs′)
   unfolding summary
-  summary-alike {vs} {vs′} o =
-      subst (λ (hist : List ℕ). SameNumbers (gathered s (estimatePercentile s (binsOf s vs))) (gathered s′ (estimatePercentile s′ hist))) (bins-alike o)
-      (gathered-alike (estimatePercentile s (binsOf s vs)) (estimatePercentile s′ (binsOf s vs)) (percentile-alike (binsOf s vs)))
+  summary-alike place place′ {vs} {vs′} o =
+      subst (λ (hist : List ℕ). SameNumbers (gathered s place (estimatePercentile s (binsOf s vs))) (gathered s′ place′ (estimatePercentile s′ hist))) (bins-alike o)
+      (gathered-alike place place′ (estimatePercentile s (binsOf s vs)) (estimatePercentile s′ (binsOf s vs)) (percentile-alike (binsOf s vs)))
 
 -- ---- windows
 

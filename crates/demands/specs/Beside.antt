@@ -12,7 +12,8 @@ use Rattle.types.specs.declared.HistogramStats.{HistogramStats}
 use Rattle.spec.specs.Answer.{done, number}
 use Rattle.spec.specs.Lists.{countOf, sumOf}
 use Rattle.spec.specs.Bins.{binOf, histogram}
-use Rattle.spec.specs.Statistics.{computeHistogramStats}
+use Rattle.spec.specs.Pixels.{pixels}
+use Rattle.spec.specs.Statistics.{statisticsOf, computeHistogramStats}
 use Rattle.spec.specs.Window.{windowOf, pictureWindow, autoscaleWindow}
 use Rattle.spec.specs.Grey.{autoscaleDbImageToU8}
 use Rattle.spec.specs.Colour.{createSyntheticRgbByModeAndStrategy}
@@ -41,6 +42,8 @@ withMean m d s =
       p99 = s .p99;
       «p05_bin» = s .«p05_bin»;
       «p95_bin» = s .«p95_bin»;
+      «max_row» = s .«max_row»;
+      «max_col» = s .«max_col»;
     }
 
 -- the statistics with other bins
@@ -65,6 +68,34 @@ withBins b05 b95 s =
       p99 = s .p99;
       «p05_bin» = b05;
       «p95_bin» = b95;
+      «max_row» = s .«max_row»;
+      «max_col» = s .«max_col»;
+    }
+
+-- the statistics with another place of the maximum
+abbrev pub withPlace : ℕ → ℕ → HistogramStats → HistogramStats
+withPlace row col s =
+    record {
+      «valid_count» = s .«valid_count»;
+      «min_db» = s .«min_db»;
+      «max_db» = s .«max_db»;
+      «mean_db» = s .«mean_db»;
+      «std_db» = s .«std_db»;
+      «median_db» = s .«median_db»;
+      p01 = s .p01;
+      p02 = s .p02;
+      p05 = s .p05;
+      p10 = s .p10;
+      p25 = s .p25;
+      p75 = s .p75;
+      p90 = s .p90;
+      p95 = s .p95;
+      p98 = s .p98;
+      p99 = s .p99;
+      «p05_bin» = s .«p05_bin»;
+      «p95_bin» = s .«p95_bin»;
+      «max_row» = row;
+      «max_col» = col;
     }
 
 pub record Beside : Type 0 where
@@ -90,6 +121,13 @@ pub record Beside : Type 0 where
   pub bins-unread : (strategy : AutoscaleStrategy) (s : HistogramStats) (b05 b95 : ℕ) → windowOf strategy (withBins b05 b95 s) ≡ windowOf strategy s
   pub picture-bins-unread :
       (strategy : AutoscaleStrategy) (copol : Bool) (s : HistogramStats) (b05 b95 : ℕ) → pictureWindow strategy copol (withBins b05 b95 s) ≡ pictureWindow strategy copol s
+  -- document 02, F-11: windows are taken from statistics without the place, and would be the same with any
+  pub place-unread : (strategy : AutoscaleStrategy) (s : HistogramStats) (row col : ℕ) → windowOf strategy (withPlace row col s) ≡ windowOf strategy s
+  pub picture-place-unread :
+      (strategy : AutoscaleStrategy) (copol : Bool) (s : HistogramStats) (row col : ℕ) → pictureWindow strategy copol (withPlace row col s) ≡ pictureWindow strategy copol s
+  -- the statistics call differs from what windows read by the place alone
+  pub placed :
+      (rows cols : ℕ) (marks : List ℕ) (db : List Float) (s : HistogramStats) → computeHistogramStats rows cols marks db ≡ done s → s ≡ withPlace (s .«max_row») (s .«max_col») (statisticsOf (pixels marks db))
   -- outside Tamed the greys of a picture are those of the grey call at 8 bits
   pub picture-greys :
       (strategy : AutoscaleStrategy) → (strategy ≡ Tamed → ⊥) → (mode : SyntheticRgbMode) (rows cols : ℕ) (marks1 : List ℕ) (db1 : List Float) (marks2 : List ℕ) (db2 : List Float)

@@ -2,3 +2,4 @@ pub mod Alteration
 pub mod GreyOrder
 pub mod Reordering
 pub mod Beside
+pub mod Echo

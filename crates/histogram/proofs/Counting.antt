@@ -7,8 +7,10 @@ use native.Mathlib.Omega.{arith}
 use lib.ListN.{length}
 use lib.Ieee.{Float}
 use Rattle.types.specs.declared.Moments.{Moments}
+use Rattle.types.specs.declared.Place.{Place}
 use Rattle.spec.specs.Moments.{noMoments, withValue, momentsFrom}
 use Rattle.spec.specs.Pixels.{Pixel, validOf}
+use Rattle.spec.specs.Strongest.{nowhere}
 use Rattle.spec.specs.Statistics.{gathered, summary, summaryOf, statisticsOf}
 
 pub moments-count : (s : Moments) (vs : List Float) → momentsFrom s vs .count ≡ s .count + length vs
@@ -20,10 +22,10 @@ pub none-count : (vs : List Float) → momentsFrom noMoments vs .count ≡ lengt
 unfolding noMoments
 none-count vs = moments-count noMoments vs ∙ omega arith
 
-pub summary-count : (s : Moments) (vs : List Float) → summary s vs .«valid_count» ≡ s .count
+pub summary-count : (s : Moments) (place : Place) (vs : List Float) → summary s place vs .«valid_count» ≡ s .count
 unfolding summary gathered
-summary-count s vs = refl
+summary-count s place vs = refl
 
 pub count-valid : (px : List Pixel) → statisticsOf px .«valid_count» ≡ length (validOf px)
 unfolding statisticsOf summaryOf
-count-valid px = summary-count (momentsFrom noMoments (validOf px)) (validOf px) ∙ none-count (validOf px)
+count-valid px = summary-count (momentsFrom noMoments (validOf px)) nowhere (validOf px) ∙ none-count (validOf px)

@@ -4,8 +4,10 @@ use mathlib.Core.List.{List, [], _∷_}
 use lib.ListN.{length}
 use lib.Ieee.{Float}
 use Rattle.types.specs.declared.Moments.{Moments}
+use Rattle.types.specs.declared.Place.{Place}
 use Rattle.spec.specs.Floats.{zero64}
 use Rattle.spec.specs.Moments.{noMoments, withValue, momentsFrom, spanOf, isFlat}
+use Rattle.spec.specs.Strongest.{nowhere}
 use Rattle.spec.specs.Bins.{binsOf}
 use Rattle.spec.specs.Percentile.{flatPercentile, spreadPercentile, estimatePercentile}
 use Rattle.spec.specs.Statistics.{deviationOf, gathered, summary, summaryOf}
@@ -32,16 +34,16 @@ extremes-moments vs = ap (λ (t : Moments). extremesFrom t vs) (sym none) ∙ fo
 
 -- ---- the record
 
-pub summary-meanless : (s : Moments) (vs : List Float) → summary (meanless s) vs ≡ withMean zero64 (deviationOf (meanless s)) (summary s vs)
+pub summary-meanless : (s : Moments) (place : Place) (vs : List Float) → summary (meanless s) place vs ≡ withMean zero64 (deviationOf (meanless s)) (summary s place vs)
 unfolding summary gathered estimatePercentile flatPercentile spreadPercentile binsOf isFlat spanOf meanless withMean
-summary-meanless s vs = refl
+summary-meanless s place vs = refl
 
 -- from the extremes pass
-pub summary-extremes : (vs : List Float) → summary (extremesFrom noMoments vs) vs ≡ withMean zero64 (deviationOf (extremesFrom noMoments vs)) (summaryOf vs)
+pub summary-extremes : (vs : List Float) → summary (extremesFrom noMoments vs) nowhere vs ≡ withMean zero64 (deviationOf (extremesFrom noMoments vs)) (summaryOf vs)
 unfolding summaryOf
 summary-extremes vs =
-    ap (λ (t : Moments). summary t vs) (extremes-moments vs) ∙ summary-meanless (momentsFrom noMoments vs) vs
-    ∙ ap (λ (t : Moments). withMean zero64 (deviationOf t) (summary (momentsFrom noMoments vs) vs)) (sym (extremes-moments vs))
+    ap (λ (t : Moments). summary t nowhere vs) (extremes-moments vs) ∙ summary-meanless (momentsFrom noMoments vs) nowhere vs
+    ∙ ap (λ (t : Moments). withMean zero64 (deviationOf t) (summary (momentsFrom noMoments vs) nowhere vs)) (sym (extremes-moments vs))
 
 -- ---- the bins
 

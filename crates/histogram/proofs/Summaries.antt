@@ -10,6 +10,7 @@ use lib.ListN.{length, set, replicate}
 use lib.Ieee.{Float, binary64, div, ofBits}
 use Rattle.types.specs.declared.HistogramStats.{HistogramStats}
 use Rattle.types.specs.declared.Moments.{Moments}
+use Rattle.types.specs.declared.Place.{Place}
 use Rattle.types.specs.declared.Percentile.{Percentile}
 use Rattle.spec.specs.Floats.{one64, half64}
 use Rattle.spec.specs.Moments.{spanOf, isFlat}
@@ -58,12 +59,12 @@ module _ (s : Moments) (vs : List Float) where
       f ∙ ap (λ (l : List ℕ). stored l (map (binOf (s .«min_db») (div binary64 one64 (spanOf s))) vs)) h
       ∙ stored-counts 4096 (map (binOf (s .«min_db») (div binary64 one64 (spanOf s))) vs) (bins-below (s .«min_db») (div binary64 one64 (spanOf s)) vs) ∙ rw e
 
-  pub summary-counted : (hist : List ℕ) (r : HistogramStats) → hist ≡ binsOf s vs → r ≡ gathered s (estimatePercentile s hist) → r ≡ summary s vs
+  pub summary-counted : (place : Place) (hist : List ℕ) (r : HistogramStats) → hist ≡ binsOf s vs → r ≡ gathered s place (estimatePercentile s hist) → r ≡ summary s place vs
   unfolding summary
-  summary-counted hist r h e = e ∙ ap (λ (l : List ℕ). gathered s (estimatePercentile s l)) h
+  summary-counted place hist r h e = e ∙ ap (λ (l : List ℕ). gathered s place (estimatePercentile s l)) h
 
 -- the record, from a deviation and eleven percentiles
-pub gathered-parts : (s : Moments) (p : Float → Percentile) (deviation : Float) (median p01 p02 p05 p10 p25 p75 p90 p95 p98 p99 : Percentile) → deviation ≡ deviationOf s →
+pub gathered-parts : (s : Moments) (place : Place) (p : Float → Percentile) (deviation : Float) (median p01 p02 p05 p10 p25 p75 p90 p95 p98 p99 : Percentile) → deviation ≡ deviationOf s →
     median ≡ p half64 → p01 ≡ p (ofBits binary64 0x3f84_7ae1_47ae_147b) → p02 ≡ p (ofBits binary64 0x3f94_7ae1_47ae_147b) → p05 ≡ p (ofBits binary64 0x3fa9_9999_9999_999a) → p10 ≡ p (ofBits binary64 0x3fb9_9999_9999_999a) → p25 ≡ p (ofBits binary64 0x3fd0_0000_0000_0000) → p75 ≡ p (ofBits binary64 0x3fe8_0000_0000_0000) → p90 ≡ p (ofBits binary64 0x3fec_cccc_cccc_cccd) → p95 ≡ p (ofBits binary64 0x3fee_6666_6666_6666) → p98 ≡ p (ofBits binary64 0x3fef_5c28_f5c2_8f5c) → p99 ≡ p (ofBits binary64 0x3fef_ae14_7ae1_47ae) →
     record {
       «valid_count» = s .count;
@@ -84,7 +85,9 @@ pub gathered-parts : (s : Moments) (p : Float → Percentile) (deviation : Float
       p99 = p99 .value;
       «p05_bin» = p05 .bin;
       «p95_bin» = p95 .bin;
+      «max_row» = place .row;
+      «max_col» = place .col;
     }
-    ≡ gathered s p
+    ≡ gathered s place p
 unfolding gathered
-gathered-parts s p deviation median p01 p02 p05 p10 p25 p75 p90 p95 p98 p99 e e0 e1 e2 e3 e4 e5 e6 e7 e8 e9 e10 = cc
+gathered-parts s place p deviation median p01 p02 p05 p10 p25 p75 p90 p95 p98 p99 e e0 e1 e2 e3 e4 e5 e6 e7 e8 e9 e10 = cc

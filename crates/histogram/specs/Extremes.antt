@@ -50,4 +50,6 @@ withMean mean deviation s =
       p99 = s .p99;
       «p05_bin» = s .«p05_bin»;
       «p95_bin» = s .«p95_bin»;
+      «max_row» = s .«max_row»;
+      «max_col» = s .«max_col»;
     }

@@ -12,12 +12,14 @@ ghost use Rattle.spec.specs.Percentile.{estimatePercentile};
 ghost use Rattle.spec.specs.Statistics.{deviationOf, gathered, summary, computeHistogramStats, readStatistics};
 use types::HistogramStats;
 use types::Moments;
+use types::Place;
 use types::Reply;
 use types::StatisticsAnswer;
 
 mod bins;
 pub mod moments;
 mod percentile;
+mod place;
 
 // "deviation = root of m2/count, 0 for count 1".
 fn deviation_of(m: Moments) -> f64
@@ -30,9 +32,9 @@ fn deviation_of(m: Moments) -> f64
 }
 
 // The record from moments and bins.
-fn stats_from_bins(m: Moments, hist: &[u32]) -> HistogramStats
+fn stats_from_bins(m: Moments, place: Place, hist: &[u32]) -> HistogramStats
     requires { ⌜ length (now hist) ≡ 4096 ⌝ }
-    ensures { λ r. ⌜ r ≡ gathered m (estimatePercentile m (now (hist .entry))) ⌝ }
+    ensures { λ r. ⌜ r ≡ gathered m place (estimatePercentile m (now (hist .entry))) ⌝ }
 {
     let valid_count = m.count as usize;
     let std_db = deviation_of(m);
@@ -66,17 +68,19 @@ fn stats_from_bins(m: Moments, hist: &[u32]) -> HistogramStats
         p99: p99.value,
         p05_bin: p05.bin,
         p95_bin: p95.bin,
+        max_row: place.row,
+        max_col: place.col,
     }
 }
 
-// The record of a band whose moments are known; nothing is refused here.
-pub fn summary(db: &[f64], valid_mask: &[u8], m: Moments) -> HistogramStats
+// The record of a band whose moments are known, and the place of its maximum; nothing is refused here.
+pub fn summary(db: &[f64], valid_mask: &[u8], m: Moments, place: Place) -> HistogramStats
     requires { ⌜ (length (now «valid_mask») ≡ length (now db)) × (length (now db) < 2 ^ 32) × (m .count ≡ length (validOf (pixels (now «valid_mask») (now db)))) ⌝ }
-    ensures { λ r. ⌜ r ≡ summary m (validOf (pixels (now («valid_mask» .entry)) (now (db .entry)))) ⌝ }
+    ensures { λ r. ⌜ r ≡ summary m place (validOf (pixels (now («valid_mask» .entry)) (now (db .entry)))) ⌝ }
 {
     let mut hist: [u32; 4096] = [0; 4096];
     bins::count_bins(db, valid_mask, m, &mut hist);
-    stats_from_bins(m, &hist)
+    stats_from_bins(m, place, &hist)
 }
 
 // The statistics call: refusals 1 to 4, then the record.
@@ -92,10 +96,10 @@ pub fn compute_histogram_stats(
     if refusal != 0 {
         return StatisticsAnswer::Refused(refusal);
     }
-    let moments::FirstPass::Passed(m) = moments::first_pass(db, valid_mask) else {
+    let place::PlacedPass::Placed(m, at) = place::placed_pass(db, valid_mask) else {
         return StatisticsAnswer::Refused(4);
     };
-    StatisticsAnswer::Statistics(summary(db, valid_mask, m))
+    StatisticsAnswer::Statistics(summary(db, valid_mask, m, place::place_in(cols, at)))
 }
 
 // The smallest of the numbers 1 to 3 that applies to the call for the bins, 0 if none does.

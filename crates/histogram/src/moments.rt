@@ -17,7 +17,7 @@ pub enum FirstPass {
 }
 
 // Before the first value.
-fn no_moments() -> Moments
+pub(crate) fn no_moments() -> Moments
     ensures { λ r. ⌜ r ≡ noMoments ⌝ }
 {
     Moments {
@@ -65,7 +65,7 @@ fn with_extreme(m: Moments, v: f64) -> Moments
 }
 
 // All moments with one value more.
-fn with_value(m: Moments, v: f64) -> Moments
+pub(crate) fn with_value(m: Moments, v: f64) -> Moments
     requires { ⌜ m .count + 1 < 2 ^ 32 ⌝ }
     ensures { λ r. ⌜ r ≡ withValue m v ⌝ }
 {

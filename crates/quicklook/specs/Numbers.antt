@@ -11,9 +11,9 @@ unfoldable pub kept : {A B : Type 0} → (A → B) → Answer A → B → B
 kept f (refused k) old = old
 kept f (done a) old = f a
 
--- "a count and fifteen floats" and "the bins of p05 and p95", in the record's order: the whole numbers, then the floats
+-- "a count and fifteen floats", "the bins of p05 and p95", "the row and column of the first valid maximum": the whole numbers, then the floats
 unfoldable pub wholeOf : HistogramStats → List ℕ
-wholeOf s = s .«valid_count» ∷ s .«p05_bin» ∷ s .«p95_bin» ∷ []
+wholeOf s = s .«valid_count» ∷ s .«p05_bin» ∷ s .«p95_bin» ∷ s .«max_row» ∷ s .«max_col» ∷ []
 
 unfoldable pub floatsOf : HistogramStats → List Float
 floatsOf s =

@@ -15,13 +15,15 @@ use types::StatisticsAnswer;
 use types::WindowAnswer;
 
 // The record's whole numbers and its floats, in its order.
-fn put_statistics(stats: HistogramStats, whole: &mut [u64; 3], floats: &mut [f64; 15])
+fn put_statistics(stats: HistogramStats, whole: &mut [u64; 5], floats: &mut [f64; 15])
     ensures { λ _. ⌜ (now (whole .exit) ≡ wholeOf stats) × (now (floats .exit) ≡ floatsOf stats) ⌝ }
 {
     *whole = [
         stats.valid_count as u64,
         stats.p05_bin as u64,
         stats.p95_bin as u64,
+        stats.max_row as u64,
+        stats.max_col as u64,
     ];
     *floats = [
         stats.min_db,
@@ -42,14 +44,14 @@ fn put_statistics(stats: HistogramStats, whole: &mut [u64; 3], floats: &mut [f64
     ];
 }
 
-// The count, the bins of p05 and p95, and the fifteen floats of a band.
+// The count, the bins of p05 and p95, the place of the maximum, and the fifteen floats of a band.
 #[no_mangle]
 pub extern "C" fn quicklook_statistics(
     rows: usize,
     cols: usize,
     db: &[f64],
     valid_mask: &[u8],
-    whole: &mut [u64; 3],
+    whole: &mut [u64; 5],
     floats: &mut [f64; 15],
 ) -> u8
     ensures reply { λ r. ⌜ r ≡ number (Statistics.computeHistogramStats rows cols (now («valid_mask» .entry)) (now (db .entry))) ⌝ }

@@ -11,9 +11,10 @@ use Rattle.spec.specs.Answer.{firstOf, orRefused, answer, number, replyNumber, 
 use Rattle.spec.specs.Pixels.{pixel, pixels, validOf, isOn}
 use Rattle.spec.specs.Refusals.{sidesRefused, unlike, lengthsRefused, workRefused, tooLong, marksRefused, decibelRefused, decibelsRefused, sideRefused, tilesRefused}
 use Rattle.spec.specs.Moments.{noMoments, withValue, momentsFrom, spanOf, isFlat}
+use Rattle.spec.specs.Strongest.{isNewMax, strongestFrom, strongest, placeIn}
 use Rattle.spec.specs.Bins.{binOf, histogram, binsOf}
 use Rattle.spec.specs.Percentile.{targetOf, findBin, valueAt, flatPercentile, spreadPercentile, estimatePercentile}
-use Rattle.spec.specs.Statistics.{deviationOf, gathered, summary, summaryOf, statisticsOf, computeHistogramStats, readStatistics}
+use Rattle.spec.specs.Statistics.{deviationOf, gathered, summary, summaryOf, statisticsOf, placedStatistics, computeHistogramStats, readStatistics}
 use Rattle.spec.specs.Curve.{curveOf, computeHistogram}
 use Rattle.spec.specs.Window.{opened, validRange, lowContrastClip, outlier, heavyTailedClip, highRangeClip, normalClip, standardClip, robustClip, skewFactor, tailHeaviness, adaptiveClip, chooseClip, windowOf, tamedClip, pictureWindow, gammaRefused, readWindow, autoscaleWindow}
 use Rattle.spec.specs.Value.{normalized, valueOf, paint}
@@ -28,5 +29,5 @@ use Rattle.spec.specs.Marks.{markOf, processScalarDataMask}
 use Rattle.spec.specs.Places.{movedPicture}
 
 unfoldable pub computing : ℕ
-unfolding flatMap zipWith trailingZeros span climb size odd units round neg sum add sub mul div lt eq le ne ofInt toUnsigned ofFields ofBits toBits absFloat roundAsU64 wholeRoot rootOf sqrtFloat placesFrom countOf counts stored lowest highest sumOf any isClahe isTamed firstOf orRefused answer number replyNumber after pixel pixels validOf isOn sidesRefused unlike lengthsRefused workRefused tooLong marksRefused decibelRefused decibelsRefused sideRefused tilesRefused noMoments withValue momentsFrom spanOf isFlat binOf histogram binsOf targetOf findBin valueAt flatPercentile spreadPercentile estimatePercentile deviationOf gathered summary summaryOf statisticsOf computeHistogramStats readStatistics curveOf computeHistogram opened validRange lowContrastClip outlier heavyTailedClip highRangeClip normalClip standardClip robustClip skewFactor tailHeaviness adaptiveClip chooseClip windowOf tamedClip pictureWindow gammaRefused readWindow autoscaleWindow normalized valueOf paint stretchByte stretch scaleU16ToU8 tileSize tilePixels levelOf tileCounts threshold clipped excess oneByOne shared clipAt clip tileTable tileTables sumAt tilePosition blend sample equalised claheValues reached red green blue redAbove greenAbove blueAbove plain suppressed firstLevel floorLevel coloursOf bytesOf createSyntheticRgbByModeAndStrategy normalPixel black values greyTests autoscaleDbImageToU8 autoscaleDbImageToU16 pictureGreys composed pictureTests syntheticRgbPicture padCell padded addPaddingToSquare sumOp differenceOp guardedRatio ratioOp logRatioOp normalizedDiffOp operateArrays markOf processScalarDataMask movedPicture
+unfolding flatMap zipWith trailingZeros span climb size odd units round neg sum add sub mul div lt eq le ne ofInt toUnsigned ofFields ofBits toBits absFloat roundAsU64 wholeRoot rootOf sqrtFloat placesFrom countOf counts stored lowest highest sumOf any isClahe isTamed firstOf orRefused answer number replyNumber after pixel pixels validOf isOn sidesRefused unlike lengthsRefused workRefused tooLong marksRefused decibelRefused decibelsRefused sideRefused tilesRefused noMoments withValue momentsFrom spanOf isFlat isNewMax strongestFrom strongest placeIn binOf histogram binsOf targetOf findBin valueAt flatPercentile spreadPercentile estimatePercentile deviationOf gathered summary summaryOf statisticsOf placedStatistics computeHistogramStats readStatistics curveOf computeHistogram opened validRange lowContrastClip outlier heavyTailedClip highRangeClip normalClip standardClip robustClip skewFactor tailHeaviness adaptiveClip chooseClip windowOf tamedClip pictureWindow gammaRefused readWindow autoscaleWindow normalized valueOf paint stretchByte stretch scaleU16ToU8 tileSize tilePixels levelOf tileCounts threshold clipped excess oneByOne shared clipAt clip tileTable tileTables sumAt tilePosition blend sample equalised claheValues reached red green blue redAbove greenAbove blueAbove plain suppressed firstLevel floorLevel coloursOf bytesOf createSyntheticRgbByModeAndStrategy normalPixel black values greyTests autoscaleDbImageToU8 autoscaleDbImageToU16 pictureGreys composed pictureTests syntheticRgbPicture padCell padded addPaddingToSquare sumOp differenceOp guardedRatio ratioOp logRatioOp normalizedDiffOp operateArrays markOf processScalarDataMask movedPicture
 computing = 0

@@ -11,7 +11,7 @@ use Rattle.types.specs.declared.SyntheticRgbMode.the-variants.{Default as Plain
 use Rattle.spec.specs.Floats.{zero64, half64, ofCount}
 use Rattle.spec.specs.Answer.{Answer, refused, done, number}
 use Rattle.spec.specs.Pixels.{pixels}
-use Rattle.spec.specs.Statistics.{statisticsOf, computeHistogramStats}
+use Rattle.spec.specs.Statistics.{placedStatistics, computeHistogramStats}
 use Rattle.spec.specs.Grey.{autoscaleDbImageToU8, autoscaleDbImageToU16}
 use Rattle.spec.specs.Stretch.{scaleU16ToU8}
 use Rattle.spec.specs.Colour.{createSyntheticRgbByModeAndStrategy, floorLevel}
@@ -20,7 +20,7 @@ use Rattle.spec.specs.Marks.{processScalarDataMask}
 
 -- one row, every mark 1
 abbrev pub stats : List Float → HistogramStats
-stats db = statisticsOf (pixels (replicate (length db) 1) db)
+stats db = placedStatistics (length db) (pixels (replicate (length db) 1) db)
 
 abbrev pub statistics : List Float → Answer HistogramStats
 statistics db = computeHistogramStats 1 (length db) (replicate (length db) 1) db

@@ -31,7 +31,7 @@ pub enum Reply {
     Refused(u8),
 }
 
-// "The statistics are one record of a count and fifteen floats", with the Rust's field names; "carries the bins of p05 and p95".
+// "The statistics are one record of a count and fifteen floats", with the Rust's field names; "carries the bins of p05 and p95"; "gains the row and column of the first valid maximum".
 pub struct HistogramStats {
     pub valid_count: usize,
     pub min_db: f64,
@@ -51,6 +51,8 @@ pub struct HistogramStats {
     pub p99: f64,
     pub p05_bin: usize,
     pub p95_bin: usize,
+    pub max_row: usize,
+    pub max_col: usize,
 }
 
 pub enum StatisticsAnswer {
@@ -90,6 +92,12 @@ pub struct Lent {
     pub grey2: usize,
     pub rgb: usize,
     pub work: usize,
+}
+
+// A place in a raster.
+pub struct Place {
+    pub row: usize,
+    pub col: usize,
 }
 
 // What pass one knows of the values so far.

@@ -130,6 +130,9 @@ impl PolarizationOperation {
 
 pub const CLAHE_WORK: usize = 16_384;
 
+/// The whole numbers of the statistics.
+pub const WHOLE: usize = 5;
+
 /// The bins of a band's curve.
 pub const BINS: usize = 4096;
 
@@ -159,6 +162,9 @@ pub struct Statistics {
     /// The bins of p05 and p95 on the curve that `histogram` gives.
     pub p05_bin: u64,
     pub p95_bin: u64,
+    /// The row and the column of the first valid maximum, 0 and 0 without one.
+    pub max_row: u64,
+    pub max_col: u64,
 }
 
 /// A percentile with its bin on the curve.
@@ -171,8 +177,8 @@ pub struct Tick {
 
 impl Statistics {
     /// From the whole numbers and the floats as the call writes them.
-    fn from_lent(whole: [u64; 3], floats: [f64; 15]) -> Self {
-        let [valid_count, p05_bin, p95_bin] = whole;
+    fn from_lent(whole: [u64; WHOLE], floats: [f64; 15]) -> Self {
+        let [valid_count, p05_bin, p95_bin, max_row, max_col] = whole;
         let [min_db, max_db, mean_db, std_db, median_db, p01, p02, p05, p10, p25, p75, p90, p95, p98, p99] = floats;
         Statistics {
             valid_count,
@@ -193,6 +199,8 @@ impl Statistics {
             p99,
             p05_bin,
             p95_bin,
+            max_row,
+            max_col,
         }
     }
 
@@ -215,6 +223,11 @@ impl Statistics {
             ("p98", self.p98),
             ("p99", self.p99),
         ]
+    }
+
+    /// The row and the column of the first valid maximum, if a pixel is valid.
+    pub fn strongest(&self) -> Option<(u64, u64)> {
+        (self.valid_count > 0).then_some((self.max_row, self.max_col))
     }
 
     /// The percentiles whose bins are known.
@@ -241,8 +254,8 @@ pub mod c {
     extern "C" {
         pub fn quicklook_marks(processed: *const f32, processed_len: usize, valid_mask: *mut u8, valid_mask_len: usize) -> u8;
         pub fn quicklook_statistics(
-            rows: usize, cols: usize, db: *const f64, db_len: usize, valid_mask: *const u8, valid_mask_len: usize, whole: *mut [u64; 3],
-            floats: *mut [f64; 15],
+            rows: usize, cols: usize, db: *const f64, db_len: usize, valid_mask: *const u8, valid_mask_len: usize,
+            whole: *mut [u64; super::WHOLE], floats: *mut [f64; 15],
         ) -> u8;
         pub fn quicklook_histogram(
             rows: usize, cols: usize, db: *const f64, db_len: usize, valid_mask: *const u8, valid_mask_len: usize, counts: *mut u32,
@@ -306,7 +319,7 @@ pub fn marks(processed: &[f32], valid_mask: &mut [u8]) -> Answer<()> {
 }
 
 pub fn statistics(rows: usize, cols: usize, band: Band) -> Answer<Statistics> {
-    let mut whole = [0u64; 3];
+    let mut whole = [0u64; WHOLE];
     let mut floats = [0f64; 15];
     codes::statistics(rows, cols, band, &mut whole, &mut floats)?;
     Ok(Statistics::from_lent(whole, floats))
@@ -378,7 +391,7 @@ pub fn operate(operation: PolarizationOperation, a: &[f32], b: &[f32], out: &mut
 
 /// The calls by codes and lent memory, as the archive has them; tests use them for codes that name nothing and for memory left alone.
 pub mod codes {
-    use super::{Answer, Band, PictureOut, c, call};
+    use super::{Answer, Band, PictureOut, WHOLE, c, call};
 
     pub fn window(strategy: u8, rows: usize, cols: usize, band: Band, blank: &mut u8, floats: &mut [f64; 4]) -> Answer<()> {
         let Band { db, valid_mask } = band;
@@ -387,7 +400,7 @@ pub mod codes {
         })
     }
 
-    pub fn statistics(rows: usize, cols: usize, band: Band, whole: &mut [u64; 3], floats: &mut [f64; 15]) -> Answer<()> {
+    pub fn statistics(rows: usize, cols: usize, band: Band, whole: &mut [u64; WHOLE], floats: &mut [f64; 15]) -> Answer<()> {
         let Band { db, valid_mask } = band;
         call(|| unsafe { c::quicklook_statistics(rows, cols, db.as_ptr(), db.len(), valid_mask.as_ptr(), valid_mask.len(), whole, floats) })
     }
@@ -468,8 +481,9 @@ mod tests {
     #[test]
     fn statistics_keep_their_order() {
         let floats: [f64; 15] = std::array::from_fn(|k| k as f64);
-        let statistics = Statistics::from_lent([7, 8, 9], floats);
+        let statistics = Statistics::from_lent([7, 8, 9, 10, 11], floats);
         assert_eq!(statistics.named().map(|(_, value)| value), floats);
-        assert_eq!([statistics.valid_count, statistics.p05_bin, statistics.p95_bin], [7, 8, 9]);
+        let Statistics { valid_count, p05_bin, p95_bin, max_row, max_col, .. } = statistics;
+        assert_eq!([valid_count, p05_bin, p95_bin, max_row, max_col], [7, 8, 9, 10, 11]);
     }
 }

@@ -225,7 +225,7 @@ fn compose(record: &Record) -> Outcome {
 fn statistics(record: &Record) -> Outcome {
     record.has(4)?;
     let (db, valid_mask) = (record.list::<f64>(0)?, record.list::<u8>(1)?);
-    let (mut whole, mut floats) = (Lent::<u64>::new(3), Lent::<f64>::new(15));
+    let (mut whole, mut floats) = (Lent::<u64>::new(engine::WHOLE), Lent::<f64>::new(15));
     record.answers(unsafe {
         c::quicklook_statistics(
             record.rows,
@@ -243,7 +243,7 @@ fn statistics(record: &Record) -> Outcome {
     if count != whole.memory[..1] {
         return Err(format!("count is {}, expected {count:?}", whole.memory[0]));
     }
-    whole.is_untouched_from("whole", if record.reply == 0 { 3 } else { 1 })?;
+    whole.is_untouched_from("whole", if record.reply == 0 { engine::WHOLE } else { 1 })?;
     floats.is_by("floats", &record.list(3)?, as_numbers)
 }
 

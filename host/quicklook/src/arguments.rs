@@ -65,7 +65,7 @@ pub enum Command {
         #[arg(long)]
         force: bool,
     },
-    /// The statistics of one band: a count and fifteen numbers, a line each; behind p05 and p95 their bins on the curve
+    /// The statistics of one band: a count and fifteen numbers, a line each; behind p05 and p95 their bins on the curve, behind max its row and column
     Stats {
         #[command(flatten)]
         band: BandFiles,

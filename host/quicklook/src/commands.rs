@@ -229,6 +229,8 @@ struct ToldStatistics<'a> {
     floats: Statistics,
     p05_bin: u64,
     p95_bin: u64,
+    max_row: u64,
+    max_col: u64,
 }
 
 fn named<S: Serializer>(statistics: &Statistics, serializer: S) -> Result<S::Ok, S::Error> {
@@ -269,16 +271,26 @@ fn stats(files: &BandFiles, as_json: bool) -> Outcome<()> {
     let statistics = answer.map_err(|refusal| explain::refused(refusal, &scene, AutoscaleStrategy::Default))?;
     scene.origin.unchanged()?;
     if as_json {
-        let Statistics { valid_count: valid, p05_bin, p95_bin, .. } = statistics;
-        return print(&json::line(&ToldStatistics { head: Head::of(&scene), valid, floats: statistics, p05_bin, p95_bin }));
+        let Statistics { valid_count: valid, p05_bin, p95_bin, max_row, max_col, .. } = statistics;
+        let (head, floats) = (Head::of(&scene), statistics);
+        return print(&json::line(&ToldStatistics { head, valid, floats, p05_bin, p95_bin, max_row, max_col }));
     }
     let mut text = format!("{:<8}{}\n", "valid", statistics.valid_count);
     for (name, value) in statistics.named() {
         let tick = statistics.ticks().into_iter().find(|tick| tick.name == name);
-        let bin = tick.map_or(String::new(), |tick| format!("  bin {}", tick.bin));
-        text.push_str(&format!("{name:<8}{value}{bin}\n"));
+        let beside = match (tick, statistics.strongest()) {
+            (Some(tick), _) => format!("  bin {}", tick.bin),
+            (None, Some((row, col))) if name == "max" => format!("  row {row} column {col}{}", in_file(&scene, row, col)),
+            _ => String::new(),
+        };
+        text.push_str(&format!("{name:<8}{value}{beside}\n"));
     }
     print(&text)
+}
+
+/// Where a pixel of a part stands in the whole file.
+fn in_file(scene: &Scene, row: u64, col: u64) -> String {
+    scene.origin.crop.map_or(String::new(), |crop| format!(" (row {} column {} of the file)", row + crop.row as u64, col + crop.col as u64))
 }
 
 fn histogram(files: &BandFiles, as_json: bool) -> Outcome<()> {

@@ -153,9 +153,10 @@ struct Described<'a> {
     crop: Option<[usize; 2]>,
     bands: usize,
     statistic_names: Vec<String>,
-    /// Of each band the count, the fifteen floats and two bins; a float holds these whole numbers.
+    /// Of each band the count, the fifteen floats, two bins and the place of the maximum; a float holds these whole numbers.
     statistics: Vec<Vec<f64>>,
     windows: Vec<Option<Ends>>,
+    strongest: Vec<Option<Spot>>,
     curves: Vec<Curve>,
     origin: &'a Items,
     block_rows: usize,
@@ -167,6 +168,14 @@ struct Described<'a> {
 struct Ends {
     low: f64,
     high: f64,
+}
+
+/// A band's first valid maximum.
+#[derive(Serialize)]
+struct Spot {
+    row: u64,
+    col: u64,
+    db: f64,
 }
 
 /// The engine's counts of a band's valid decibels between the least and the greatest, and the cuts on them.
@@ -224,15 +233,18 @@ fn describe<'a>(
         statistic_names: std::iter::once("valid".to_owned())
             .chain(statistics[0].named().map(|(name, _)| name.to_owned()))
             .chain(statistics[0].ticks().map(|tick| format!("{} bin", tick.name)))
+            .chain(["max row", "max column"].map(str::to_owned))
             .collect(),
         statistics: statistics
             .iter()
             .map(|s| {
                 let bins = s.ticks().map(|tick| tick.bin as f64);
-                std::iter::once(s.valid_count as f64).chain(s.named().map(|(_, value)| value)).chain(bins).collect()
+                let place = [s.max_row as f64, s.max_col as f64];
+                std::iter::once(s.valid_count as f64).chain(s.named().map(|(_, value)| value)).chain(bins).chain(place).collect()
             })
             .collect(),
         windows: windows.collect(),
+        strongest: statistics.iter().map(|s| s.strongest().map(|(row, col)| Spot { row, col, db: s.max_db })).collect(),
         curves: statistics.iter().zip(curves).map(|(s, counts)| curve(s, counts)).collect(),
         origin,
         block_rows,

@@ -126,12 +126,13 @@ def compare_case(library, rows, cols, db, marks, counts_len):
     """Both calls on one scene: replies, every lent element and guard, then the law on what the library itself gave."""
     step = ref.Exact if len(db) <= EXACT_UP_TO else ref.Fast
     d, m = Lent(c.c_double, db, math.nan), Lent(c.c_uint8, marks, 1)
-    whole, floats = Lent(c.c_uint64, range(7, 10), 2 ** 64 - 3), Lent(c.c_double, [1.5 - i for i in range(15)], -7.25)
+    whole, floats = Lent(c.c_uint64, range(7, 12), 2 ** 64 - 3), Lent(c.c_double, [1.5 - i for i in range(15)], -7.25)
     counts = Lent(c.c_uint32, [2 ** 32 - 1 - i for i in range(counts_len)], 0xA5A5A5A5)
     band = (rows, cols, d.pointer, len(db), m.pointer, len(marks))
     wanted = ref.statistics(rows, cols, db, marks, step)
     same("statistics reply", library.quicklook_statistics(*band, whole.pointer, floats.pointer), wanted.reply)
-    whole.compare("whole", None if wanted.reply else wanted.whole)
+    # Row and column of F-11 are left to its own check: here they are what the library wrote, and unchanged at a refusal.
+    whole.compare("whole", None if wanted.reply else wanted.whole + whole.array[GUARD + 3:-GUARD])
     # Document 01 compares statistics as numbers, so the sign of a zero is open in its claims. The float steps settle it for
     # mean, deviation and percentiles, "the first met" for min and max. So bits are compared, without exception.
     floats.compare("floats", None if wanted.reply else wanted.floats)

@@ -70,7 +70,7 @@ LIBRARY_FAULTS = {     # the fault: the call, when it happens (reply, arguments)
     "a float written at a refusal": ("quicklook_statistics", lambda reply, g: reply == 4, 7, 14),
     "a count written at a refusal": ("quicklook_histogram", lambda reply, g: reply == 2 and g[7] == 4095, 6, 4094),
     "the element behind the counts": ("quicklook_histogram", lambda reply, g: reply == 0, 6, 4096),
-    "the element behind the whole numbers": ("quicklook_statistics", lambda reply, g: reply == 0, 6, 3),
+    "the element behind the whole numbers": ("quicklook_statistics", lambda reply, g: reply == 0, 6, 5),
     "the element before the floats": ("quicklook_statistics", lambda reply, g: reply == 0, 7, -1),
     "dB written": ("quicklook_histogram", lambda reply, g: g[3] > 0, 2, 0),
 }

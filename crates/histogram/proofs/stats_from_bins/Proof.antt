@@ -39,7 +39,7 @@ estimate-percentile-requires-11 c κs = c .before .before .before .before .befor
 
 returns : tie.Need-returns
 returns c =
-    gathered-parts _ _ _ _ _ _ _ _ _ _ _ _ _ _ (c .before .before .before .before .before .before .before .before .before .before .before .deviation-of .ensures)
+    gathered-parts _ _ _ _ _ _ _ _ _ _ _ _ _ _ _ (c .before .before .before .before .before .before .before .before .before .before .before .deviation-of .ensures)
     (c .before .before .before .before .before .before .before .before .before .before .estimate-percentile .ensures) (c .before .before .before .before .before .before .before .before .before .estimate-percentile2 .ensures) (c .before .before .before .before .before .before .before .before .estimate-percentile3 .ensures) (c .before .before .before .before .before .before .before .estimate-percentile4 .ensures) (c .before .before .before .before .before .before .estimate-percentile5 .ensures) (c .before .before .before .before .before .estimate-percentile6 .ensures) (c .before .before .before .before .estimate-percentile7 .ensures) (c .before .before .before .estimate-percentile8 .ensures) (c .before .before .estimate-percentile9 .ensures) (c .before .estimate-percentile10 .ensures) (c .estimate-percentile11 .ensures)
 
 pub stats-from-bins-spec : {M : Type 1} → statement M

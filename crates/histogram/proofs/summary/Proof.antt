@@ -12,7 +12,7 @@ count-bins-requires c κs =
     (start .pre .0, start .pre .1, refl, start .pre .2)
 
 returns : tie.Need-returns
-returns c = summary-counted _ _ _ _ (c .before .before .before .count-bins .ensures) (c .stats-from-bins .ensures)
+returns c = summary-counted _ _ _ _ _ (c .before .before .before .count-bins .ensures) (c .stats-from-bins .ensures)
 
 pub summary-spec : {M : Type 1} → statement M
 summary-spec = tie.close (tie.spec (λ c. search needs) count-bins-requires (λ c. search needs) (λ c κs. search needs) returns)

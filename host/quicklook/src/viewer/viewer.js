@@ -96,7 +96,7 @@ const Quicklook = (() => {
   // ---- state
 
   const state = {
-    view: bands === 2 ? "rgb" : "grey1", gamma: 1, marks: false, drawing: false,
+    view: bands === 2 ? "rgb" : "grey1", gamma: 1, marks: false, echoes: true, gone: -1, drawing: false,
     scale: 1, left: 0, top: 0, row: -1, col: -1, corner: null, drag: null, patches: [], colours: ["#00a2ff", "#ffb000", "#3ddc84", "#ff5d8f", "#b388ff", "#ffffff"],
   };
 
@@ -177,6 +177,7 @@ const Quicklook = (() => {
     if (lists[state.view]) pen.drawImage(full, 0, 0);
     if (state.marks && lists.marks1) pen.drawImage(veil, 0, 0);
     pen.setTransform(1, 0, 0, 1, 0, 0);
+    if (state.echoes) rings();
     state.patches.forEach((patch, k) => outline(patch, state.colours[k % state.colours.length], String(k + 1)));
     if (state.drag && state.drag.patch) outline(state.drag.patch, "#ffffff", "");
     if (state.corner) outline(between(state.corner, state), "#ffffff", "");
@@ -195,15 +196,37 @@ const Quicklook = (() => {
     pen.stroke();
   }
 
-  function outline(patch, colour, label) {
+  // the bands of the view whose strongest echo is known, from 0 on
+  function shownBands() {
+    return scene.strongest.flatMap((spot, k) => spot && (state.view === "rgb" || state.view === `grey${k + 1}`) ? [k] : []);
+  }
+
+  // a ring round the strongest echo of each band, wide enough to leave the pixel free; then the bands' numbers, the first's to the left
+  function rings() {
+    const shown = shownBands().map((k) => {
+      const { row, col } = scene.strongest[k];
+      return { k, x: state.left + (col + 0.5) * state.scale, y: state.top + (row + 0.5) * state.scale, r: Math.max(12, state.scale) + 5 * k };
+    });
+    for (const { k, x, y, r } of shown) {
+      for (const [width, colour] of [[5, "#000"], [2, state.colours[k]]]) {
+        pen.lineWidth = width; pen.strokeStyle = colour;
+        pen.beginPath(); pen.arc(x, y, r, 0, 2 * Math.PI); pen.stroke();
+      }
+    }
+    for (const { k, x, y, r } of shown) label(String(k + 1), state.colours[k], k === 0 ? x - r - 15 : x + r + 5, y + 6);
+  }
+
+  function label(text, colour, x, y) {
+    pen.font = "bold 16px sans-serif"; pen.lineWidth = 3; pen.strokeStyle = "#000"; pen.strokeText(text, x, y);
+    pen.fillStyle = colour; pen.fillText(text, x, y);
+  }
+
+  function outline(patch, colour, name) {
     const x = state.left + patch.col0 * state.scale, y = state.top + patch.row0 * state.scale;
     const w = (patch.col1 - patch.col0 + 1) * state.scale, h = (patch.row1 - patch.row0 + 1) * state.scale;
     pen.lineWidth = 4; pen.strokeStyle = "#000"; pen.strokeRect(x, y, w, h);
     pen.lineWidth = 2; pen.strokeStyle = colour; pen.strokeRect(x, y, w, h);
-    if (label) {
-      pen.font = "bold 16px sans-serif"; pen.lineWidth = 3; pen.strokeStyle = "#000"; pen.strokeText(label, x + 4, y + 18);
-      pen.fillStyle = colour; pen.fillText(label, x + 4, y + 18);
-    }
+    if (name) label(name, colour, x + 4, y + 18);
   }
 
   // ---- the values under the cursor
@@ -260,6 +283,45 @@ const Quicklook = (() => {
     const x = state.left + (state.col + 0.5) * state.scale, y = state.top + (state.row + 0.5) * state.scale;
     if (x < 0) state.left -= x; else if (x > screen.width) state.left -= x - screen.width;
     if (y < 0) state.top -= y; else if (y > screen.height) state.top -= y - screen.height;
+  }
+
+  // ---- the strongest echoes
+
+  function listStrongest() {
+    const body = $("strongest").tBodies[0];
+    scene.strongest.forEach((spot, k) => {
+      const tr = body.insertRow();
+      const inFile = (at, k) => scene.crop ? `${at} (${at + scene.crop[k]} in the file)` : at;
+      const cells = spot ? [k + 1, inFile(spot.row, 0), inFile(spot.col, 1), spot.db] : [k + 1, "–", "–", "no valid pixel"];
+      cells.forEach((text) => { tr.insertCell().textContent = text; });
+      tr.cells[0].style.color = state.colours[k];
+      const last = tr.insertCell();
+      if (!spot) return;
+      const button = document.createElement("button");
+      button.textContent = "Show"; button.setAttribute("aria-label", `Show the strongest echo of band ${k + 1}`);
+      button.onclick = () => goToEcho(k);
+      last.append(button);
+    });
+  }
+
+  // the cursor at the echo, and the echo in the middle of the view
+  function goToEcho(k) {
+    const { row, col } = scene.strongest[k];
+    state.gone = k;
+    state.left = screen.width / 2 - (col + 0.5) * state.scale;
+    state.top = screen.height / 2 - (row + 0.5) * state.scale;
+    moveTo(row, col);
+  }
+
+  function nextEcho() {
+    const known = shownBands();
+    if (known.length > 0) goToEcho(known.find((k) => k > state.gone) ?? known[0]);
+  }
+
+  function toggleEchoes() {
+    state.echoes = !state.echoes;
+    $("echoes").setAttribute("aria-pressed", String(state.echoes));
+    draw();
   }
 
   // ---- patches
@@ -528,7 +590,7 @@ const Quicklook = (() => {
       keepInView(); draw();
     } else {
       const keys = {
-        1: () => setView("rgb"), 2: () => setView("grey1"), 3: () => setView("grey2"), m: toggleMarks, p: keyboardPatch,
+        1: () => setView("rgb"), 2: () => setView("grey1"), 3: () => setView("grey2"), m: toggleMarks, e: toggleEchoes, b: nextEcho, p: keyboardPatch,
         "+": () => zoom(1.25), "=": () => zoom(1.25), "-": () => zoom(0.8), 0: fit, s: save, t: () => theme(!document.documentElement.classList.contains("night")),
         "[": () => setGamma(state.gamma - 0.05), "]": () => setGamma(state.gamma + 0.05), Escape: () => { state.corner = null; setDrawing(false); draw(); },
       };
@@ -543,6 +605,7 @@ const Quicklook = (() => {
     b.onclick = () => setView(b.dataset.view);
   });
   $("marks").onclick = toggleMarks;
+  $("echoes").onclick = toggleEchoes;
   $("patch").onclick = () => setDrawing(!state.drawing);
   $("in").onclick = () => zoom(1.25);
   $("out").onclick = () => zoom(0.8);
@@ -550,7 +613,10 @@ const Quicklook = (() => {
   $("save").onclick = save;
   $("theme").onclick = () => theme(!document.documentElement.classList.contains("night"));
   $("gamma").oninput = () => setGamma(Number($("gamma").value));
-  window.addEventListener("resize", () => { resize(); fit(); });
+  // the stage changes with the window, and with the lines of the header above it
+  const resized = () => { resize(); fit(); };
+  window.addEventListener("resize", resized);
+  new ResizeObserver(resized).observe($("stage"));
 
   // ---- start: the first view as soon as its list is there, the others once the whole file is
 
@@ -563,6 +629,7 @@ const Quicklook = (() => {
   resize();
   fit();
   showReadout();
+  listStrongest();
   showStatistics();
   showOrigin();
   theme(window.matchMedia("(prefers-color-scheme: dark)").matches);
