@@ -283,22 +283,29 @@ class Page(unittest.TestCase):
         self.assertEqual(self.driver.find_element(By.ID, "echoes").get_attribute("aria-pressed"), "false")
         changed = numpy.argwhere((self.drawn(screen) != ringed).any(axis=2))
         left, top, scale = self.driver.execute_script("const s = Quicklook.state; return [s.left, s.top, s.scale]")
-        for row, col in spots:
+        for (row, col), radius, colour, other in zip(spots, (12, 17), ((0, 162, 255), (255, 176, 0)), ((255, 176, 0), (0, 162, 255))):
             apart = numpy.hypot(changed[:, 0] - top - (row + 0.5) * scale, changed[:, 1] - left - (col + 0.5) * scale)
-            self.assertLess(apart.min(), 25)
-            self.assertGreater((apart < 25).sum(), 40)
+            here = ringed[tuple(changed[abs(apart - radius) < 1.5].T)][:, :3]
+            own, others = ((here == wanted).all(axis=1).sum() for wanted in (colour, other))
+            self.assertGreater(own, 40)
+            self.assertGreater(own, 3 * others)
         far = numpy.min([numpy.hypot(changed[:, 0] - top - (row + 0.5) * scale, changed[:, 1] - left - (col + 0.5) * scale) for row, col in spots], axis=0)
         self.assertLess(far.max(), 60)
-        self.press("+", "+", "+", "+", "+", "+", "b")
-        for row, col in (spots[0], spots[1], spots[0]):
+        corner = "const s = Quicklook.state; return [s.left, s.top]"
+        whole = self.driver.execute_script(corner)
+        self.press("b")
+        self.assertEqual(self.driver.execute_script(corner), whole)
+        self.press(*"+" * 14, "b")
+        for row, col in (spots[1], spots[0], spots[1]):
             self.assertEqual([self.text("at-row"), self.text("at-column")], [str(row), str(col)])
             left, top, scale, width, height = self.driver.execute_script(
                 "const s = Quicklook.state, c = document.getElementById('screen'); return [s.left, s.top, s.scale, c.width, c.height]")
             self.assertAlmostEqual(left + (col + 0.5) * scale, width / 2)
             self.assertAlmostEqual(top + (row + 0.5) * scale, height / 2)
             self.press("b")
-        self.press("3", "b", "b")
-        self.assertEqual([self.text("at-row"), self.text("at-column")], [str(at) for at in spots[1]])
+        for view, spot in (("3", spots[1]), ("2", spots[0])):
+            self.press(view, "b", "b")
+            self.assertEqual([self.text("at-row"), self.text("at-column")], [str(at) for at in spot])
         if SHOTS:
             self.press("1", "0", "e")
             self.driver.save_screenshot(f"{SHOTS}/echoes.png")
@@ -473,8 +480,21 @@ class Page(unittest.TestCase):
         self.assert_read(50, 64)
         wide = self.driver.execute_script("return document.documentElement.scrollWidth - document.documentElement.clientWidth")
         self.assertLessEqual(wide, 0)
+        self.driver.find_element(By.CSS_SELECTOR, "#strongest button").click()
+        box = self.driver.execute_script("const b = document.getElementById('screen').getBoundingClientRect(); return [b.top, b.bottom, innerHeight]")
+        self.assertTrue(box[0] >= -1 and box[1] <= box[2] + 1, box)
         if SHOTS:
             self.driver.save_screenshot(f"{SHOTS}/phone.png")
+
+    def test_no_pixels(self):
+        """A page of a raster without columns, or without rows, is complete and says nothing wrong."""
+        for rows, cols in ((5, 0), (0, 5), (0, 0)):
+            numpy.save(f"{FOLDER}/empty.npy", numpy.zeros((rows, cols)))
+            numpy.save(f"{FOLDER}/empty-marks.npy", numpy.zeros((rows, cols), numpy.uint8))
+            run("view", "empty.npy", "empty-marks.npy", "empty.npy", "empty-marks.npy", "--strategy", "robust", "--out", "empty.html")
+            self.open("empty.html")
+            self.press("b", "e", "2", "m")
+            self.assertEqual([entry for entry in self.driver.get_log("browser") if entry["level"] == "SEVERE"], [])
 
 
 if __name__ == "__main__":

@@ -17,7 +17,7 @@ def flat(thing, found):
 
 
 def told(text):
-    """Every named number of a plain text: lines of a name and a value, behind it words with numbers of their own."""
+    """The named numbers of a plain text: lines of a name and a value, behind it words with numbers of their own; what stands in parentheses is left out."""
     for line in text.splitlines():
         name, value, *more = line.partition(" (")[0].split()
         yield name, value

@@ -41,12 +41,7 @@ fn band_stats(strategy: AutoscaleStrategy, db: &[f64], valid_mask: &[u8]) -> Sta
     let FirstPass::Passed(m) = strategy_pass(strategy, db, valid_mask) else {
         return StatisticsAnswer::Refused(4);
     };
-    StatisticsAnswer::Statistics(histogram::summary(
-        db,
-        valid_mask,
-        m,
-        Place { row: 0, col: 0 },
-    ))
+    StatisticsAnswer::Statistics(histogram::summary(db, valid_mask, m, Place { row: 0, col: 0 }))
 }
 
 // The window of such a band.

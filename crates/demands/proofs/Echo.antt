@@ -22,7 +22,7 @@ use Rattle.spec.specs.Statistics.{gathered, summary, placedStatistics, computeH
 use Rattle.spec.specs.Strongest.{isNewMax, strongestFrom, strongest, placeIn, nowhere}
 use Rattle.raster.proofs.Bands.{or-false, lengths-accepted, pixels-length}
 use Rattle.numeric.proofs.Facts.{holds, fails}
-use Rattle.numeric.proofs.Order.{Number, le-left, le-right, le-trans, le-of-lt, le-of-not-lt, lt-or-ge, lt-not-ge}
+use Rattle.numeric.proofs.Order.{Number, le-refl, le-left, le-right, le-trans, le-of-lt, le-of-not-lt, lt-or-ge, lt-not-ge}
 use Rattle.demands.specs.Echo.{at, Echo}
 use Rattle.lists.proofs.Replies.{done-answer, none-holds}
 use Rattle.demands.proofs.Counted.{count-valid}
@@ -112,6 +112,37 @@ found (on v ∷ px) i s at h = here (isNewMax s v) refl (found px (suc i) (withV
     here false e (new p k l g b u) =
         let higher : T (lt (s .«max_db») S) = subst (λ (x : Float). T (lt x S)) (smaller s v e) (u (λ z. counted s v z)) in
         new (suc p) (k ∙ omega arith) (omega arith) g (front p (le-lt v (s .«max_db») S (below s v e (le-left (s .«max_db») S (le-of-lt (s .«max_db») S higher)) (h .0)) higher) b) (λ c. higher)
+
+-- the maximum does not fall along the pixels
+rises : (px : List Pixel) (s : Moments) → Each Number (validOf px) → (s .count ≡ 0 → ⊥) → Number (s .«max_db») → T (le (s .«max_db») (momentsFrom s (validOf px) .«max_db»))
+rises px s h c n = go (found px 0 s 0 h)
+  where
+    go : Found 0 s 0 px → T (le (s .«max_db») (momentsFrom s (validOf px) .«max_db»))
+    go (kept _ e _) = subst (λ (x : Float). T (le (s .«max_db») x)) (sym e) (le-refl (s .«max_db») n)
+    go (new _ _ _ _ _ u) = le-of-lt (s .«max_db») _ (u c)
+
+-- a value is at most the maximum with it, which is a number
+met : (s : Moments) (v : Float) → Number v → ((s .count ≡ 0 → ⊥) → Number (s .«max_db»)) → T (le v (withValue s v .«max_db»))
+met s v d n = go (isNewMax s v) refl
+  where
+    go : (t : Bool) → isNewMax s v ≡ t → T (le v (withValue s v .«max_db»))
+    go true e = subst (λ (x : Float). T (le v x)) (sym (greater s v e)) (le-refl v d)
+    go false e = subst (λ (x : Float). T (le v x)) (sym (smaller s v e)) (below s v e (n (λ z. true≢false (sym (first s v z) ∙ e))) d)
+
+-- and so is every value of the pixels at most the maximum at their end
+greatest-of-pixels :
+    (px : List Pixel) (s : Moments) → Each Number (validOf px) → ((s .count ≡ 0 → ⊥) → Number (s .«max_db»)) →
+    (q : ℕ) (v : Float) → getD px q off ≡ on v → T (le v (momentsFrom s (validOf px) .«max_db»))
+unfolding momentsFrom validOf
+greatest-of-pixels [] s h n q v e = absurd (off-on v e)
+greatest-of-pixels (off ∷ px) s h n zero v e = absurd (off-on v e)
+greatest-of-pixels (off ∷ px) s h n (suc q) v e = greatest-of-pixels px s h n q v e
+greatest-of-pixels (on w ∷ px) s h n zero v e =
+    let m = met s w (h .0) n in
+    let k = rises px (withValue s w) (h .1) (counted s w) (le-right w (withValue s w .«max_db») m) in
+    subst (λ (x : Float). T (le x (momentsFrom (withValue s w) (validOf px) .«max_db»))) (on-is w v e) (le-trans w (withValue s w .«max_db») _ m k)
+greatest-of-pixels (on w ∷ px) s h n (suc q) v e =
+    greatest-of-pixels px (withValue s w) (h .1) (λ c. le-right w (withValue s w .«max_db») (met s w (h .0) n)) q v e
 
 -- ---- of a band
 
@@ -212,6 +243,15 @@ module _ (rows cols : ℕ) (m : List ℕ) (d : List Float) (s : HistogramStats) 
   walk : Found 0 noMoments 0 (pixels m d)
   walk = found (pixels m d) 0 noMoments 0 (accepted .numbers)
 
+  pixels-are : length (pixels m d) ≡ rows * cols
+  pixels-are = pixels-length m d (accepted .length-marks ∙ sym (accepted .length-db)) ∙ accepted .length-db
+
+  greatest-is : (j : ℕ) → j < rows * cols → getD m j 0 ≡ 1 → T (le (getD d j nan) (s .«max_db»))
+  unfolding noMoments
+  greatest-is j l o =
+      let p = pixel-at m d j (omega (arith, l, pixels-are)) ∙ pixel-one (getD m j 0) (getD d j nan) o in
+      subst (λ (y : Float). T (le (getD d j nan) y)) (sym (fields .1)) (greatest-of-pixels (pixels m d) noMoments (accepted .numbers) (λ c. absurd (c refl)) j (getD d j nan) p)
+
   -- without a valid pixel
   none-is : s .«valid_count» ≡ 0 → (s .«max_row» ≡ 0) × (s .«max_col» ≡ 0)
   unfolding strongest
@@ -237,12 +277,11 @@ module _ (rows cols : ℕ) (m : List ℕ) (d : List Float) (s : HistogramStats) 
       go : Found 0 noMoments 0 (pixels m d) → Stands
       go (kept _ _ n) = absurd (omega (arith, h, fields .0, n refl))
       go (new p k l g b u) =
-          let n : length (pixels m d) ≡ rows * cols = pixels-length m d (accepted .length-marks ∙ sym (accepted .length-db)) ∙ accepted .length-db in
           let x = pixel-is (getD m p 0) (getD d p nan) _ (sym (pixel-at m d p l) ∙ g) in
           record {
             p = p;
             is = k ∙ omega arith;
-            inside = omega (arith, l, n);
+            inside = omega (arith, l, pixels-are);
             mark = one (getD m p 0) (x .0) (mark-small m p (accepted .marks-good));
             db = x .1 ∙ sym (fields .1);
             before = λ j i o. subst (λ (y : Float). T (lt (getD d j nan) y)) (sym (fields .1)) (b j i (getD d j nan) (pixel-at m d j (omega (arith, i, l)) ∙ pixel-one (getD m j 0) (getD d j nan) o));
@@ -284,5 +323,6 @@ echo =
       inside = inside-is;
       valid = valid-is;
       maximum = maximum-is;
+      greatest = greatest-is;
       first = first-is;
     }

@@ -4,7 +4,7 @@ use mathlib.Core.Path.{_≡_}
 use mathlib.Core.List.{List}
 use lib.Dec.{T}
 use lib.ListN.{getD}
-use lib.Ieee.{Float, nan, lt}
+use lib.Ieee.{Float, nan, le, lt}
 use Rattle.types.specs.declared.HistogramStats.{HistogramStats}
 use Rattle.spec.specs.Answer.{done}
 use Rattle.spec.specs.Statistics.{computeHistogramStats}
@@ -31,6 +31,10 @@ pub record Echo : Type 0 where
   pub maximum :
       (rows cols : ℕ) (marks : List ℕ) (db : List Float) (s : HistogramStats) → computeHistogramStats rows cols marks db ≡ done s → 0 < s .«valid_count» →
       getD db (at cols s) nan ≡ s .«max_db»
+  -- "maximum": no valid dB is greater
+  pub greatest :
+      (rows cols : ℕ) (marks : List ℕ) (db : List Float) (s : HistogramStats) → computeHistogramStats rows cols marks db ≡ done s →
+      (j : ℕ) → j < rows * cols → getD marks j 0 ≡ 1 → T (le (getD db j nan) (s .«max_db»))
   -- "first": every valid dB before it is smaller
   pub first :
       (rows cols : ℕ) (marks : List ℕ) (db : List Float) (s : HistogramStats) → computeHistogramStats rows cols marks db ≡ done s → 0 < s .«valid_count» →

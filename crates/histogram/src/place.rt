@@ -1,4 +1,4 @@
-// Where the strongest echo is: the place of the first valid maximum, kept by the first pass.
+// Where the strongest echo is: the place of the first valid maximum, kept by a first pass of its own.
 ghost use mathlib.Core.Path.{_≡_};
 ghost use mathlib.Core.Bool.{cond};
 ghost use Prim.Native.Nat.{_<_, _^_};
@@ -26,7 +26,7 @@ fn place_met(m: Moments, at: usize, v: f64, i: usize) -> usize
     if v > m.max_db { i } else { at }
 }
 
-// The first pass, which keeps the place too.
+// The first pass of the statistics call: it keeps the place too.
 pub(crate) fn placed_pass(db: &[f64], valid_mask: &[u8]) -> PlacedPass
     requires { ⌜ (length (now «valid_mask») ≡ length (now db)) × (length (now db) < 2 ^ 32) ⌝ }
     ensures { λ r. ⌜ r ≡ placedPass (pixels (now («valid_mask» .entry)) (now (db .entry))) ⌝ }

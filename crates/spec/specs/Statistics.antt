@@ -58,7 +58,7 @@ summary s place vs = gathered s place (estimatePercentile s (binsOf s vs))
 unfoldable pub summaryOf : List Float → HistogramStats
 summaryOf vs = summary (momentsFrom noMoments vs) nowhere vs
 
--- the statistics of a band but for the place of its maximum, which nothing but the statistics call tells (`place-unread`)
+-- the statistics of a band but for the place of its maximum, which windows do not read (`placed`, `place-unread`: demands/specs/Beside)
 unfoldable pub statisticsOf : List Pixel → HistogramStats
 statisticsOf px = summaryOf (validOf px)
 

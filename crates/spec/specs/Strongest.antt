@@ -23,10 +23,10 @@ strongestFrom i s at (on v ∷ px) = strongestFrom (suc i) (withValue s v) (cond
 unfoldable pub strongest : List Pixel → ℕ
 strongest px = strongestFrom 0 noMoments 0 px
 
--- as row and column; a raster without columns has no place
-unfoldable pub placeIn : ℕ → ℕ → Place
-placeIn cols at = cond (eqb cols 0) (record { row = 0; col = 0 }) (record { row = at / cols; col = at % cols })
-
 -- without a maximum, and for those who read no place
 abbrev pub nowhere : Place
 nowhere = record { row = 0; col = 0 }
+
+-- as row and column; a raster without columns has no place
+unfoldable pub placeIn : ℕ → ℕ → Place
+placeIn cols at = cond (eqb cols 0) nowhere (record { row = at / cols; col = at % cols })

@@ -5,4 +5,4 @@ use Rattle.starred.specs.EchoSamples.{EchoSamples}
 
 pub echo-samples : EchoSamples
 unfolding computing
-echo-samples = record { last = refl; first-of-equals = refl; invalid-skipped = refl; zero-first = refl; none-valid = refl; no-pixel = refl; not-a-number = refl }
+echo-samples = record { last = refl; first-of-equals = refl; invalid-skipped = refl; zero-first = refl; none-valid = refl; no-pixel = (refl, refl); not-a-number = refl }

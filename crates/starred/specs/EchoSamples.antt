@@ -27,5 +27,5 @@ pub record EchoSamples : Type 0 where
   pub zero-first : echo (1 ∷ 1 ∷ []) (minusZero ∷ ofCount 0 ∷ []) ≡ record { row = 0; col = 0 }
   -- "0 and 0 without one"
   pub none-valid : echo (0 ∷ 0 ∷ 0 ∷ 0 ∷ []) (ofCount 1 ∷ ofCount 2 ∷ ofCount 3 ∷ ofCount 4 ∷ []) ≡ record { row = 0; col = 0 }
-  pub no-pixel : placedStatistics 0 [] .«max_col» ≡ 0
+  pub no-pixel : (placedStatistics 0 [] .«max_row» ≡ 0) × (placedStatistics 0 [] .«max_col» ≡ 0)
   pub not-a-number : computeHistogramStats 1 2 (1 ∷ 1 ∷ []) (ofCount 1 ∷ nan ∷ []) ≡ refused 4

@@ -169,7 +169,7 @@ pub enum Command {
         #[command(flatten)]
         form: Form,
     },
-    /// A page for the deck: one file that opens in any browser, with the picture, its values, coordinates, statistics and patches to rank
+    /// A page for the deck: one file that opens in any browser, with the picture, its values, coordinates, statistics, strongest echoes and patches to rank
     View {
         #[command(flatten)]
         scene: SceneFiles,

@@ -24,7 +24,7 @@ const Quicklook = (() => {
   async function readList(name, width) {
     const whole = new Uint8Array(rows * cols * width);
     const step = scene.blockRows * cols * width;
-    for (let k = 0; k * scene.blockRows < rows; k++) {
+    for (let k = 0; cols > 0 && k * scene.blockRows < rows; k++) {
       const element = $(`${name}-${k}`);
       whole.set(await unpack(element), k * step);
       element.remove();
@@ -213,7 +213,7 @@ const Quicklook = (() => {
         pen.beginPath(); pen.arc(x, y, r, 0, 2 * Math.PI); pen.stroke();
       }
     }
-    for (const { k, x, y, r } of shown) label(String(k + 1), state.colours[k], k === 0 ? x - r - 15 : x + r + 5, y + 6);
+    for (const { k, x, y, r } of shown) label(`B${k + 1}`, state.colours[k], k === 0 ? x - r - 28 : x + r + 5, y + 6);
   }
 
   function label(text, colour, x, y) {
@@ -230,6 +230,8 @@ const Quicklook = (() => {
   }
 
   // ---- the values under the cursor
+
+  const signed = (db) => Object.is(db, -0) ? "-0" : String(db);
 
   function values(row, col) {
     const i = row * cols + col;
@@ -265,7 +267,7 @@ const Quicklook = (() => {
       line("Latitude", digits(place.latitude, 6));
     }
     for (let band = 1; band <= bands; band++) {
-      line(`Decibel ${band}`, at[`mark${band}`] === 0 ? `invalid (${at[`db${band}`]})` : at[`db${band}`] === null ? null : String(at[`db${band}`]));
+      line(`Decibel ${band}`, at[`mark${band}`] === 0 ? `invalid (${at[`db${band}`]})` : at[`db${band}`] === null ? null : signed(at[`db${band}`]));
       line(`Grey ${band}`, at[`grey${band}`]);
     }
     if (bands === 2) line("Red green blue", at.rgb ? at.rgb.join(" ") : null);
@@ -292,24 +294,26 @@ const Quicklook = (() => {
     scene.strongest.forEach((spot, k) => {
       const tr = body.insertRow();
       const inFile = (at, k) => scene.crop ? `${at} (${at + scene.crop[k]} in the file)` : at;
-      const cells = spot ? [k + 1, inFile(spot.row, 0), inFile(spot.col, 1), spot.db] : [k + 1, "–", "–", "no valid pixel"];
+      const cells = spot ? [k + 1, inFile(spot.row, 0), inFile(spot.col, 1), signed(spot.db)] : [k + 1, "–", "–", "no valid pixel"];
       cells.forEach((text) => { tr.insertCell().textContent = text; });
-      tr.cells[0].style.color = state.colours[k];
+      tr.cells[0].style.boxShadow = `inset 4px 0 ${state.colours[k]}`;
       const last = tr.insertCell();
       if (!spot) return;
       const button = document.createElement("button");
-      button.textContent = "Show"; button.setAttribute("aria-label", `Show the strongest echo of band ${k + 1}`);
+      button.textContent = "Show"; button.setAttribute("aria-label", `Show the strongest echo of band ${k + 1}`); button.setAttribute("aria-keyshortcuts", "b");
       button.onclick = () => goToEcho(k);
       last.append(button);
     });
   }
 
-  // the cursor at the echo, and the echo in the middle of the view
+  // the cursor at the echo, and the echo in the middle of the canvas if it was outside, the canvas on the screen
   function goToEcho(k) {
     const { row, col } = scene.strongest[k];
+    const x = (col + 0.5) * state.scale, y = (row + 0.5) * state.scale;
+    const seen = state.left + x >= 0 && state.left + x <= screen.width && state.top + y >= 0 && state.top + y <= screen.height;
+    if (!seen) { state.left = screen.width / 2 - x; state.top = screen.height / 2 - y; }
     state.gone = k;
-    state.left = screen.width / 2 - (col + 0.5) * state.scale;
-    state.top = screen.height / 2 - (row + 0.5) * state.scale;
+    screen.scrollIntoView({ block: "nearest" });
     moveTo(row, col);
   }
 
@@ -646,7 +650,7 @@ const Quicklook = (() => {
       await begun;
       for (const name of ["rgb", "grey1", "grey2", "marks1", "marks2"]) {
         if (!lists[name] && $(`${name}-0`)) await ready(name, name === "rgb" ? 3 : 1);
-        else if (!lists[name] && rows === 0) lists[name] = new Uint8Array(0);
+        else if (!lists[name] && rows * cols === 0) lists[name] = new Uint8Array(0);
       }
       complete = true;
       $("loading").remove();
