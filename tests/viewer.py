@@ -100,7 +100,8 @@ class Page(unittest.TestCase):
         self.fail(f"never: {test}")
 
     def text(self, id_):
-        return self.driver.find_element(By.ID, id_).text
+        """Read at once: an element may be written anew as soon as more of the scene is there."""
+        return self.driver.execute_script("return document.getElementById(arguments[0]).innerText.trim()", id_)
 
     def press(self, *keys):
         ActionChains(self.driver).send_keys(*keys).perform()
@@ -120,7 +121,8 @@ class Page(unittest.TestCase):
     def readout(self):
         """What a reader sees, once the decibels are there."""
         self.wait("!document.getElementById('readout').textContent.includes('…')")
-        return {dt.text: dd.text for dt, dd in zip(self.driver.find_elements(By.CSS_SELECTOR, "#readout dt"), self.driver.find_elements(By.CSS_SELECTOR, "#readout dd"))}
+        return self.driver.execute_script(
+            "return Object.fromEntries([...document.querySelectorAll('#readout dt')].map((dt) => [dt.innerText.trim(), dt.nextElementSibling.innerText.trim()]))")
 
     def expected(self, row, col):
         lines = {"Row": str(row), "Column": str(col), "Red green blue": " ".join(map(str, RGB[row, col]))}
