@@ -482,7 +482,10 @@ class Page(unittest.TestCase):
         self.assert_read(50, 64)
         wide = self.driver.execute_script("return document.documentElement.scrollWidth - document.documentElement.clientWidth")
         self.assertLessEqual(wide, 0)
-        self.driver.find_element(By.CSS_SELECTOR, "#strongest button").click()
+        button = self.driver.find_element(By.CSS_SELECTOR, "#strongest button")
+        self.driver.execute_script("arguments[0].scrollIntoView({ block: 'start' })", button)
+        self.assertLess(self.driver.execute_script("return document.getElementById('screen').getBoundingClientRect().top"), -1)
+        button.click()
         box = self.driver.execute_script("const b = document.getElementById('screen').getBoundingClientRect(); return [b.top, b.bottom, innerHeight]")
         self.assertTrue(box[0] >= -1 and box[1] <= box[2] + 1, box)
         if SHOTS:
