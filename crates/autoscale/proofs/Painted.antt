@@ -14,28 +14,34 @@ use Rattle.types.specs.declared.WindowAnswer.{WindowAnswer}
 use Rattle.types.specs.declared.WindowAnswer.the-variants.{Window, Blank, Refused}
 use Rattle.types.proofs.WindowAnswer.{the-type}
 use Rattle.spec.specs.Floats.{one64}
+use Rattle.spec.specs.Gamma.{BitDepth, U16, greyValue}
 use Rattle.spec.specs.Grey.{black, values}
 use Rattle.spec.specs.Lists.{lowest, highest}
 use Rattle.spec.specs.Pixels.{Pixel}
 use Rattle.spec.specs.Strategies.{isClahe}
 use Rattle.spec.specs.Stretch.{stretchByte, stretch}
-use Rattle.spec.specs.Value.{paint}
+use Rattle.spec.specs.Value.{full16, valueOf, paint}
 use Rattle.spec.specs.Window.{gammaRefused}
 use Rattle.autoscale.specs.Painted.{plainValues}
 
 -- outside Clahe neither the strategy nor the sides matter
-pub values-outside : (full : Float) (strategy : AutoscaleStrategy) (rows cols : ℕ) (px : List Pixel) (w : WindowAnswer) → isClahe strategy ≡ false →
-    values full strategy rows cols px w ≡ plainValues full px w
+pub values-outside : (depth : BitDepth) (strategy : AutoscaleStrategy) (rows cols : ℕ) (px : List Pixel) (w : WindowAnswer) → isClahe strategy ≡ false →
+    values depth strategy rows cols px w ≡ plainValues depth px w
 unfolding values isClahe
-values-outside full strategy rows cols px Blank e = refl
-values-outside full strategy rows cols px (Refused k) e = refl
-values-outside full strategy rows cols px (Window low high range gamma) e = rw e
+values-outside depth strategy rows cols px Blank e = refl
+values-outside depth strategy rows cols px (Refused k) e = refl
+values-outside depth strategy rows cols px (Window low high range gamma) e = rw e
 
 -- ---- a window
 module _ (w : WindowAnswer) (low high range gamma : Float) (is : w ≡ Window low high range gamma) where
-  pub plain-window : (full : Float) (px : List Pixel) → plainValues full px w ≡ map (paint full low high range) px
+  pub plain-window : (depth : BitDepth) (px : List Pixel) → plainValues depth px w ≡ map (paint (greyValue depth gamma low high range)) px
   unfolding values isClahe
-  plain-window full px = ap (plainValues full px) is
+  plain-window depth px = ap (plainValues depth px) is
+
+  -- at U16 the gamma does not matter
+  pub plain-window-16 : (px : List Pixel) → plainValues U16 px w ≡ map (paint (valueOf full16 low high range)) px
+  unfolding greyValue
+  plain-window-16 px = plain-window U16 px
 
   pub gamma-other : ne gamma one64 ≡ gammaRefused w
   unfolding gammaRefused
@@ -71,14 +77,14 @@ unfolding stretch
 stretch-zeros xs = ap (λ (h : ℕ). map (stretchByte (lowest 65535 (map (λ x. 0) xs)) h) (map (λ x. 0) xs)) (no-highest xs) ∙ each-zero (lowest 65535 (map (λ x. 0) xs)) xs
 
 -- without a window a band is all zeros, stretched or not
-pub left-plain : (full : Float) (w : WindowAnswer) (px : List Pixel) (n : ℕ) → OneOf (1 ∷ 2 ∷ []) (tagOf the-type w) → length px ≡ n → replicate n 0 ≡ plainValues full px w
+pub left-plain : (depth : BitDepth) (w : WindowAnswer) (px : List Pixel) (n : ℕ) → OneOf (1 ∷ 2 ∷ []) (tagOf the-type w) → length px ≡ n → replicate n 0 ≡ plainValues depth px w
 unfolding values black
-left-plain full (Window low high range gamma) px n h e = absurd (miss (1 ∷ 2 ∷ []) 0 tt h)
-left-plain full Blank px n h e = rw (← e) (sym (zeros px))
-left-plain full (Refused k) px n h e = rw (← e) (sym (zeros px))
+left-plain depth (Window low high range gamma) px n h e = absurd (miss (1 ∷ 2 ∷ []) 0 tt h)
+left-plain depth Blank px n h e = rw (← e) (sym (zeros px))
+left-plain depth (Refused k) px n h e = rw (← e) (sym (zeros px))
 
-pub left-stretched : (full : Float) (w : WindowAnswer) (px : List Pixel) (n : ℕ) → OneOf (1 ∷ 2 ∷ []) (tagOf the-type w) → length px ≡ n → replicate n 0 ≡ stretch (plainValues full px w)
+pub left-stretched : (depth : BitDepth) (w : WindowAnswer) (px : List Pixel) (n : ℕ) → OneOf (1 ∷ 2 ∷ []) (tagOf the-type w) → length px ≡ n → replicate n 0 ≡ stretch (plainValues depth px w)
 unfolding values black
-left-stretched full (Window low high range gamma) px n h e = absurd (miss (1 ∷ 2 ∷ []) 0 tt h)
-left-stretched full Blank px n h e = rw (← e) (sym (stretch-zeros px ∙ zeros px))
-left-stretched full (Refused k) px n h e = rw (← e) (sym (stretch-zeros px ∙ zeros px))
+left-stretched depth (Window low high range gamma) px n h e = absurd (miss (1 ∷ 2 ∷ []) 0 tt h)
+left-stretched depth Blank px n h e = rw (← e) (sym (stretch-zeros px ∙ zeros px))
+left-stretched depth (Refused k) px n h e = rw (← e) (sym (stretch-zeros px ∙ zeros px))

@@ -7,14 +7,17 @@ use native.Mathlib.Nat.{add-zero, suc-inj, le-of-suc-le-suc, not-suc-le-zero}
 use native.Mathlib.Decide.{decLt}
 use native.Mathlib.Omega.{arith}
 use borrow.Author.Tests.{ne-eqb}
-use lib.Dec.{T, eqb}
+use lib.Dec.{T, eqb, leb, le→leb}
+use lib.Ieee.Bits.{is-true}
 use lib.ListN.{length, take, drop, getD, replicate, length-drop, length-map}
 use lib.Seq.{getD-drop, length-take-le, take-append-add, take-at, take-add}
 use lib.Ieee.{Float, nan, le, ofBits, toUnsigned}
 use Rattle.spec.specs.Floats.{zero64, clampFloat}
 use Rattle.spec.specs.Lists.{lowest}
 use Rattle.spec.specs.Pixels.{Pixel, off, pixel, pixels}
-use Rattle.spec.specs.Value.{full8, full16, valueOf, paint}
+use Rattle.spec.specs.Gamma.{U8, over, under, gammaValue, curve, curved, greyValue}
+use Rattle.spec.specs.Value.{full8, full16, normalized, valueOf, paint}
+use Rattle.autoscale.specs.Painted.{AllValid}
 use Rattle.lists.proofs.Zip.{zip-take, zip-drop}
 use Rattle.numeric.proofs.Small.{clampFloat-small, clampFloat-cut}
 use Rattle.raster.proofs.Bands.{drop-pixels, pixels-length}
@@ -41,26 +44,26 @@ module _ {full : Float} {most : ℕ} (f : Full full most) (x : Float) where
   pub cut : {y : Float} {n : ℕ} → y ≡ clampFloat zero64 full x → n ≡ toUnsigned 64 y → n ≤ most
   cut e t = subst (λ (n : ℕ). n ≤ most) (sym (t ∙ ap (toUnsigned 64) e)) (subst (λ (n : ℕ). toUnsigned 64 (clampFloat zero64 full x) ≤ n) (f .whole) (clampFloat-cut full x (f .least)))
 
--- ---- one pixel
-pub paint-pixel : (full low high range : Float) (m : ℕ) (v : Float) → cond (eqb m 0) 0 (valueOf full low high range v) ≡ paint full low high range (pixel m v)
+-- ---- one pixel, by the value of its dB
+pub paint-pixel : (value : Float → ℕ) (m : ℕ) (v : Float) → cond (eqb m 0) 0 (value v) ≡ paint value (pixel m v)
 unfolding paint pixel
-paint-pixel full low high range zero v = refl
-paint-pixel full low high range (suc m) v = rw (ne-eqb (suc m) 0 (λ e. omega (arith, e)))
+paint-pixel value zero v = refl
+paint-pixel value (suc m) v = rw (ne-eqb (suc m) 0 (λ e. omega (arith, e)))
 
 -- a valid pixel
-pub paint-valid : (full low high range : Float) (m : ℕ) (v : Float) → 0 < m → valueOf full low high range v ≡ paint full low high range (pixel m v)
+pub paint-valid : (value : Float → ℕ) (m : ℕ) (v : Float) → 0 < m → value v ≡ paint value (pixel m v)
 unfolding paint pixel
-paint-valid full low high range zero v h = absurd (omega arith)
-paint-valid full low high range (suc m) v h = refl
+paint-valid value zero v h = absurd (omega arith)
+paint-valid value (suc m) v h = refl
 
 -- a pixel that is painted from the place read where it is valid, and else 0
-pub paint-read : (full low high range : Float) (m i last place value x : ℕ) (v : Float) (db : List Float) → place ≡ cond (eqb m 0) last i → v ≡ getD db place nan
-    → value ≡ valueOf full low high range v → x ≡ cond (eqb m 0) 0 value → x ≡ paint full low high range (pixel m (getD db i nan))
-paint-read full low high range zero i last place value x v db p e w t = t ∙ paint-pixel full low high range 0 (getD db i nan)
-paint-read full low high range (suc m) i last place value x v db p e w t =
+pub paint-read : (value : Float → ℕ) (m i last place y x : ℕ) (v : Float) (db : List Float) → place ≡ cond (eqb m 0) last i → v ≡ getD db place nan
+    → y ≡ value v → x ≡ cond (eqb m 0) 0 y → x ≡ paint value (pixel m (getD db i nan))
+paint-read value zero i last place y x v db p e w t = t ∙ paint-pixel value 0 (getD db i nan)
+paint-read value (suc m) i last place y x v db p e w t =
     let n = ne-eqb (suc m) 0 (λ e. omega (arith, e)) in
     let here : place ≡ i = p ∙ ap (λ (b : Bool). cond b last i) n in
-    t ∙ ap (λ (b : Bool). cond b 0 value) n ∙ w ∙ ap (valueOf full low high range) (e ∙ ap (λ (k : ℕ). getD db k nan) here) ∙ paint-valid full low high range (suc m) (getD db i nan) (omega arith)
+    t ∙ ap (λ (b : Bool). cond b 0 y) n ∙ w ∙ ap value (e ∙ ap (λ (k : ℕ). getD db k nan) here) ∙ paint-valid value (suc m) (getD db i nan) (omega arith)
 
 -- the place read is valid if the last one was
 pub read-valid : (m i last place : ℕ) (marks : List ℕ) → place ≡ cond (eqb m 0) last i → m ≡ getD marks i 0 → i < length marks → (last < length marks) × (0 < getD marks last 0)
@@ -71,15 +74,44 @@ read-valid (suc m) i last place marks p e h l =
     subst (λ (k : ℕ). (k < length marks) × (0 < getD marks k 0)) (sym (p ∙ ap (λ (b : Bool). cond b last i) n)) (h, omega (arith, e))
 
 -- no pixel is valid
-pub paint-none : (full low high range : Float) (marks : List ℕ) (db : List Float) (n : ℕ) → length marks ≡ length db → length db ≡ n → ((k : ℕ) → k < length marks → getD marks k 0 ≡ 0)
-    → replicate n 0 ≡ map (paint full low high range) (pixels marks db)
+pub paint-none : (value : Float → ℕ) (marks : List ℕ) (db : List Float) (n : ℕ) → length marks ≡ length db → length db ≡ n → ((k : ℕ) → k < length marks → getD marks k 0 ≡ 0)
+    → replicate n 0 ≡ map (paint value) (pixels marks db)
 unfolding pixels zipWith paint pixel
-paint-none full low high range [] [] n e f h = ap (λ (k : ℕ). replicate k 0) (sym f)
-paint-none full low high range [] (v ∷ db) n e f h = absurd (omega (arith, e))
-paint-none full low high range (m ∷ marks) [] n e f h = absurd (omega (arith, e))
-paint-none full low high range (zero ∷ marks) (v ∷ db) n e f h =
-    ap (λ (k : ℕ). replicate k 0) (sym f) ∙ ap (λ (l : List ℕ). 0 ∷ l) (paint-none full low high range marks db (length db) (suc-inj e) refl (λ k l. h (suc k) (omega (arith, l))))
-paint-none full low high range (suc m ∷ marks) (v ∷ db) n e f h = absurd (omega (arith, h 0 (omega arith)))
+paint-none value [] [] n e f h = ap (λ (k : ℕ). replicate k 0) (sym f)
+paint-none value [] (v ∷ db) n e f h = absurd (omega (arith, e))
+paint-none value (m ∷ marks) [] n e f h = absurd (omega (arith, e))
+paint-none value (zero ∷ marks) (v ∷ db) n e f h =
+    ap (λ (k : ℕ). replicate k 0) (sym f) ∙ ap (λ (l : List ℕ). 0 ∷ l) (paint-none value marks db (length db) (suc-inj e) refl (λ k l. h (suc k) (omega (arith, l))))
+paint-none value (suc m ∷ marks) (v ∷ db) n e f h = absurd (omega (arith, h 0 (omega arith)))
+
+-- every pixel is valid: all dB, in two steps
+pub paint-all : (g : Float → Float) (f : Float → ℕ) (m : List ℕ) (d : List Float) → length m ≡ length d → AllValid m → map f (map g d) ≡ map (paint (λ v. f (g v))) (pixels m d)
+unfolding pixels zipWith paint pixel
+paint-all g f [] [] e h = refl
+paint-all g f [] (v ∷ d) e h = absurd (omega (arith, e))
+paint-all g f (k ∷ m) [] e h = absurd (omega (arith, e))
+paint-all g f (zero ∷ m) (v ∷ d) e h = absurd (omega (arith, h 0 (omega arith)))
+paint-all g f (suc k ∷ m) (v ∷ d) e h = ap (λ (l : List ℕ). f (g v) ∷ l) (paint-all g f m d (suc-inj e) (λ j l. h (suc j) (omega (arith, l))))
+
+-- ---- a window's gamma
+module _ (low high range : Float) (px : List Pixel) where
+  -- by the thresholds of 0.8, 0.9 and 1.1
+  pub curve-painted : (g : ℕ) → g < 3 → map (paint (λ v. gammaValue (over g) (under g) (normalized low high range v))) px ≡ map (paint (curved g low high range)) px
+  unfolding curved
+  curve-painted zero h = refl
+  curve-painted (suc zero) h = refl
+  curve-painted (suc (suc zero)) h = refl
+  curve-painted (suc (suc (suc g))) h = absurd (omega arith)
+
+  -- by the straight line
+  pub straight-painted : (g : ℕ) → 3 ≤ g → map (paint (valueOf full8 low high range)) px ≡ map (paint (curved g low high range)) px
+  unfolding curved
+  straight-painted g h =
+      sym (ap (λ (b : Bool). map (paint (λ v. cond b (valueOf full8 low high range v) (gammaValue (over g) (under g) (normalized low high range v)))) px) (is-true (leb 3 g) (le→leb 3 g h)))
+
+  pub gamma-painted : (g : ℕ) (gamma : Float) → g ≡ curve gamma → map (paint (curved g low high range)) px ≡ map (paint (greyValue U8 gamma low high range)) px
+  unfolding greyValue
+  gamma-painted g gamma e = ap (λ (n : ℕ). map (paint (curved n low high range)) px) e
 
 -- ---- the pixel at a place
 pub pixels-at : (m : List ℕ) (d : List Float) (i : ℕ) → i < length m → i < length d → pixel (getD m i 0) (getD d i nan) ≡ getD (pixels m d) i off

@@ -1,6 +1,7 @@
 // The window of a band from its statistics, by strategy, and the painting of a band from its window, outside Clahe.
 pub mod band;
 mod clip;
+mod curve;
 mod paint;
 
 use types::AutoscaleStrategy;
@@ -13,7 +14,7 @@ ghost use mathlib.Core.Bool.{true};
 ghost use lib.ListN.{length};
 ghost use Rattle.spec.specs.Pixels.{pixels};
 ghost use Rattle.spec.specs.Stretch as Stretch;
-ghost use Rattle.spec.specs.Value.{full8, full16};
+ghost use Rattle.spec.specs.Gamma.{U8, U16};
 ghost use Rattle.spec.specs.Window as Window;
 ghost use Rattle.autoscale.specs.Painted.{plainValues, opens};
 
@@ -72,7 +73,7 @@ pub fn autoscale_window(
     band::band_window(strategy, db, valid_mask)
 }
 
-// Whether a window's gamma is refused with 6.
+// Whether a window's gamma is refused with 6, at 16 bits.
 pub fn gamma_refused(window: WindowAnswer) -> bool
     ensures { λ r. ⌜ r ≡ Window.gammaRefused window ⌝ }
 {
@@ -90,8 +91,8 @@ pub fn gamma_refused(window: WindowAnswer) -> bool
 
 // The greys of a band at 8 bits from its window, outside Clahe: painted, then stretched between the least and the greatest of all bytes.
 pub fn plain_greys_u8(db: &[f64], valid_mask: &[u8], window: WindowAnswer, out: &mut [u8])
-    requires { ⌜ length (now db) ≡ length (now out) ⌝ ∗ ⌜ length (now «valid_mask») ≡ length (now out) ⌝ ∗ ⌜ opens window ≡ true ⌝ }
-    ensures { λ _. ⌜ now (out .exit) ≡ Stretch.stretch (plainValues full8 (pixels (now («valid_mask» .entry)) (now (db .entry))) window) ⌝ }
+    requires { ⌜ length (now db) ≡ length (now out) ⌝ ∗ ⌜ length (now «valid_mask») ≡ length (now out) ⌝ ∗ ⌜ opens U8 window ≡ true ⌝ }
+    ensures { λ _. ⌜ now (out .exit) ≡ Stretch.stretch (plainValues U8 (pixels (now («valid_mask» .entry)) (now (db .entry))) window) ⌝ }
 {
     let WindowAnswer::Window {
         low,
@@ -126,8 +127,8 @@ pub fn autoscale_db_image_tamed_synrgb_u8(
     window: WindowAnswer,
     out: &mut [u8],
 )
-    requires { ⌜ length (now db) ≡ length (now out) ⌝ ∗ ⌜ length (now «valid_mask») ≡ length (now out) ⌝ ∗ ⌜ opens window ≡ true ⌝ }
-    ensures { λ _. ⌜ now (out .exit) ≡ plainValues full8 (pixels (now («valid_mask» .entry)) (now (db .entry))) window ⌝ }
+    requires { ⌜ length (now db) ≡ length (now out) ⌝ ∗ ⌜ length (now «valid_mask») ≡ length (now out) ⌝ ∗ ⌜ opens U8 window ≡ true ⌝ }
+    ensures { λ _. ⌜ now (out .exit) ≡ plainValues U8 (pixels (now («valid_mask» .entry)) (now (db .entry))) window ⌝ }
 {
     let WindowAnswer::Window {
         low,
@@ -154,8 +155,8 @@ pub fn autoscale_db_image_tamed_synrgb_u8(
 
 // The values of a band at 16 bits from its window, outside Clahe.
 pub fn plain_values_u16(db: &[f64], valid_mask: &[u8], window: WindowAnswer, out: &mut [u16])
-    requires { ⌜ length (now db) ≡ length (now out) ⌝ ∗ ⌜ length (now «valid_mask») ≡ length (now out) ⌝ ∗ ⌜ opens window ≡ true ⌝ }
-    ensures { λ _. ⌜ now (out .exit) ≡ plainValues full16 (pixels (now («valid_mask» .entry)) (now (db .entry))) window ⌝ }
+    requires { ⌜ length (now db) ≡ length (now out) ⌝ ∗ ⌜ length (now «valid_mask») ≡ length (now out) ⌝ ∗ ⌜ opens U16 window ≡ true ⌝ }
+    ensures { λ _. ⌜ now (out .exit) ≡ plainValues U16 (pixels (now («valid_mask» .entry)) (now (db .entry))) window ⌝ }
 {
     let WindowAnswer::Window {
         low,

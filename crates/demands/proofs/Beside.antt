@@ -24,8 +24,8 @@ use Rattle.spec.specs.Strategies.{isTamed}
 use Rattle.spec.specs.Bins.{binOf, histogram}
 use Rattle.spec.specs.Statistics.{gathered, summary, summaryOf, statisticsOf, placedStatistics, computeHistogramStats}
 use Rattle.spec.specs.Strongest.{strongest, placeIn, nowhere}
-use Rattle.spec.specs.Window.{validRange, lowContrastClip, heavyTailedClip, highRangeClip, normalClip, standardClip, robustClip, skewFactor, tailHeaviness, adaptiveClip, chooseClip, tamedClip, opened, windowOf, pictureWindow, gammaRefused, readWindow, autoscaleWindow}
-use Rattle.spec.specs.Value.{full8}
+use Rattle.spec.specs.Window.{validRange, lowContrastClip, heavyTailedClip, highRangeClip, normalClip, standardClip, robustClip, skewFactor, tailHeaviness, adaptiveClip, chooseClip, tamedClip, opened, windowOf, pictureWindow, readWindow, autoscaleWindow}
+use Rattle.spec.specs.Gamma.{U8}
 use Rattle.spec.specs.Stretch.{stretch}
 use Rattle.spec.specs.Grey.{values, greyTests, autoscaleDbImageToU8}
 use Rattle.spec.specs.Colour.{createSyntheticRgbByModeAndStrategy}
@@ -198,7 +198,7 @@ unfolding pictureWindow windowOf
 window-same strategy n copol s = rw n refl
 
 greys-same : (strategy : AutoscaleStrategy) → isTamed strategy ≡ false → (rows cols : ℕ) (px : List _) (w : WindowAnswer) →
-    pictureGreys strategy rows cols px w ≡ stretch (values full8 strategy rows cols px w)
+    pictureGreys strategy rows cols px w ≡ stretch (values U8 strategy rows cols px w)
 unfolding pictureGreys
 greys-same strategy n rows cols px w = rw n refl
 
@@ -207,12 +207,12 @@ module _ (strategy : AutoscaleStrategy) (n : isTamed strategy ≡ false) (rows c
   win = pictureWindow strategy copol (statisticsOf (pixels m d))
 
   grey-done : sidesRefused rows cols ≡ false → lengthsRefused rows cols m d ≡ false → unlike out (rows * cols) ≡ false → workRefused strategy work ≡ false → marksRefused m ≡ false →
-      decibelsRefused (pixels m d) ≡ false → tilesRefused strategy rows cols (pixels m d) ≡ false → gammaRefused win ≡ false →
+      decibelsRefused (pixels m d) ≡ false → tilesRefused strategy rows cols (pixels m d) ≡ false →
       autoscaleDbImageToU8 strategy rows cols m d out work ≡ done (pictureGreys strategy rows cols (pixels m d) win)
   unfolding autoscaleDbImageToU8 greyTests win answer
-  grey-done a b c e f g h i =
-      or-zero _ _ (all-clear 1 _ (a, (both-false (both-false b c) e, (f, (g, (h, (ap gammaRefused (sym (window-same strategy n copol (statisticsOf (pixels m d)))) ∙ i, tt)))))))
-      ∙ ap done (ap (λ (w : WindowAnswer). stretch (values full8 strategy rows cols (pixels m d) w)) (sym (window-same strategy n copol (statisticsOf (pixels m d))))
+  grey-done a b c e f g h =
+      or-zero _ _ (all-clear 1 _ (a, (both-false (both-false b c) e, (f, (g, (h, tt))))))
+      ∙ ap done (ap (λ (w : WindowAnswer). stretch (values U8 strategy rows cols (pixels m d) w)) (sym (window-same strategy n copol (statisticsOf (pixels m d))))
       ∙ sym (greys-same strategy n rows cols (pixels m d) _))
 
 module _ (strategy : AutoscaleStrategy) (n : isTamed strategy ≡ false) (mode : SyntheticRgbMode) (rows cols : ℕ) (m1 : List ℕ) (d1 : List Float) (m2 : List ℕ) (d2 : List Float) (lent : Lent) where
@@ -229,11 +229,10 @@ module _ (strategy : AutoscaleStrategy) (n : isTamed strategy ≡ false) (mode :
       let names = or-false (lengthsRefused rows cols m1 d1) (lengthsRefused rows cols m2 d2) (b2 .0) in
       let marks = or-false (marksRefused m1) (marksRefused m2) (a .1 .1 .0) in
       let good = or-false (decibelsRefused (pixels m1 d1)) (decibelsRefused (pixels m2 d2)) (a .1 .1 .1 .0) in
-      let tiles = or-false (tilesRefused strategy rows cols (pixels m1 d1)) (tilesRefused strategy rows cols (pixels m2 d2)) (a .1 .1 .1 .1 .0) in
-      let gammas = or-false (gammaRefused (pictureWindow strategy true (statisticsOf (pixels m1 d1)))) (gammaRefused (pictureWindow strategy false (statisticsOf (pixels m2 d2)))) (a .1 .1 .1 .1 .1 .0) in (
-        grey-done strategy n rows cols m1 d1 (lent .grey1) (lent .work) true (a .0) (names .0) (b2 .1) (b5 .1) (marks .0) (good .0) (tiles .0) (gammas .0)
+      let tiles = or-false (tilesRefused strategy rows cols (pixels m1 d1)) (tilesRefused strategy rows cols (pixels m2 d2)) (a .1 .1 .1 .1 .0) in (
+        grey-done strategy n rows cols m1 d1 (lent .grey1) (lent .work) true (a .0) (names .0) (b2 .1) (b5 .1) (marks .0) (good .0) (tiles .0)
             ∙ ap done (ap (λ (q : Picture). q .grey1) (h .1)),
-        grey-done strategy n rows cols m2 d2 (lent .grey2) (lent .work) false (a .0) (names .1) (b3 .1) (b5 .1) (marks .1) (good .1) (tiles .1) (gammas .1)
+        grey-done strategy n rows cols m2 d2 (lent .grey2) (lent .work) false (a .0) (names .1) (b3 .1) (b5 .1) (marks .1) (good .1) (tiles .1)
             ∙ ap done (ap (λ (q : Picture). q .grey2) (h .1)),
       )
 

@@ -10,3 +10,4 @@ pub mod Moved
 pub mod Reordering
 pub mod Beside
 pub mod Echo
+pub mod Sixth

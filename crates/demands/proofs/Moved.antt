@@ -19,7 +19,7 @@ use Rattle.spec.specs.Refusals.{unlike, lengthsRefused, marksRefused, decibelsR
 use Rattle.spec.specs.Strategies.{isClahe, isTamed, isSuppressed}
 use Rattle.spec.specs.Statistics.{statisticsOf}
 use Rattle.spec.specs.Window.{pictureWindow}
-use Rattle.spec.specs.Value.{full8}
+use Rattle.spec.specs.Gamma.{BitDepth, U8}
 use Rattle.spec.specs.Stretch.{stretch, stretchByte}
 use Rattle.spec.specs.Colour.{plain, suppressed, floorLevel, coloursOf}
 use Rattle.spec.specs.Grey.{values}
@@ -83,11 +83,11 @@ module _ (ps : List ℕ) (n : ℕ) (o : Order ps n) where
   unfolding pixels pixel
   moved-pixels m d e f = zip-moved pixel 0 nan ps m d (e ∙ sym f)
 
-  values-moved : (full : Float) (strategy : AutoscaleStrategy) → isClahe strategy ≡ false → (rows cols : ℕ) (px : List Pixel) (w : WindowAnswer) →
-      values full strategy rows cols (moved off ps px) w ≡ moved 0 ps (values full strategy rows cols px w)
-  values-moved full strategy c rows cols px w =
-      values-map full strategy c rows cols (moved off ps px) w ∙ map-moved (painter full w) off ps px
-      ∙ ap (λ (z : ℕ). moved z ps (map (painter full w) px)) (painter-off full w) ∙ ap (moved 0 ps) (sym (values-map full strategy c rows cols px w))
+  values-moved : (depth : BitDepth) (strategy : AutoscaleStrategy) → isClahe strategy ≡ false → (rows cols : ℕ) (px : List Pixel) (w : WindowAnswer) →
+      values depth strategy rows cols (moved off ps px) w ≡ moved 0 ps (values depth strategy rows cols px w)
+  values-moved depth strategy c rows cols px w =
+      values-map depth strategy c rows cols (moved off ps px) w ∙ map-moved (painter depth w) off ps px
+      ∙ ap (λ (z : ℕ). moved z ps (map (painter depth w) px)) (painter-off depth w) ∙ ap (moved 0 ps) (sym (values-map depth strategy c rows cols px w))
 
   stretch-moved : (xs : List ℕ) → length xs ≡ n → stretch (moved 0 ps xs) ≡ moved 0 ps (stretch xs)
   unfolding stretch
@@ -102,9 +102,9 @@ module _ (ps : List ℕ) (n : ℕ) (o : Order ps n) where
       pictureGreys strategy rows cols (moved off ps px) w ≡ moved 0 ps (pictureGreys strategy rows cols px w)
   unfolding pictureGreys
   greys-moved strategy c rows cols px e w =
-      let raw = values full8 strategy rows cols px w in
-      ap (λ (xs : List ℕ). cond (isTamed strategy) xs (stretch xs)) (values-moved full8 strategy c rows cols px w)
-      ∙ pick (isTamed strategy) raw (values-size full8 strategy c rows cols px w ∙ e)
+      let raw = values U8 strategy rows cols px w in
+      ap (λ (xs : List ℕ). cond (isTamed strategy) xs (stretch xs)) (values-moved U8 strategy c rows cols px w)
+      ∙ pick (isTamed strategy) raw (values-size U8 strategy c rows cols px w ∙ e)
     where
       pick : (t : Bool) (xs : List ℕ) → length xs ≡ n → cond t (moved 0 ps xs) (stretch (moved 0 ps xs)) ≡ moved 0 ps (cond t xs (stretch xs))
       pick true xs l = refl
@@ -113,7 +113,7 @@ module _ (ps : List ℕ) (n : ℕ) (o : Order ps n) where
   greys-size : (strategy : AutoscaleStrategy) → isClahe strategy ≡ false → (rows cols : ℕ) (px : List Pixel) (w : WindowAnswer) → length (pictureGreys strategy rows cols px w) ≡ length px
   unfolding pictureGreys stretch
   greys-size strategy c rows cols px w =
-      pick (isTamed strategy) (values full8 strategy rows cols px w) ∙ values-size full8 strategy c rows cols px w
+      pick (isTamed strategy) (values U8 strategy rows cols px w) ∙ values-size U8 strategy c rows cols px w
     where
       pick : (t : Bool) (xs : List ℕ) → length (cond t xs (stretch xs)) ≡ length xs
       pick true xs = refl
@@ -177,16 +177,16 @@ steady-greys : (strategy : AutoscaleStrategy) → isClahe strategy ≡ false →
 unfolding pictureGreys
 steady-greys strategy c w w′ s rows cols px =
     ap (λ (xs : List ℕ). cond (isTamed strategy) xs (stretch xs))
-    (values-map full8 strategy c rows cols px w ∙ map-same (painter full8 w) (painter full8 w′) (s .paints full8) px ∙ sym (values-map full8 strategy c rows cols px w′))
+    (values-map U8 strategy c rows cols px w ∙ map-same (painter U8 w) (painter U8 w′) (s .paints U8) px ∙ sym (values-map U8 strategy c rows cols px w′))
 
--- where the fourth test holds, the fifth and the sixth are not asked
-bad-answer : (ps : List ℕ) (a b c e g e′ g′ : Bool) (p q : Picture) →
-    answer (firstOf 1 (a ∷ b ∷ c ∷ true ∷ e′ ∷ g′ ∷ [])) q ≡ movedPicture ps (answer (firstOf 1 (a ∷ b ∷ c ∷ true ∷ e ∷ g ∷ [])) p)
+-- where the fourth test holds, the fifth is not asked
+bad-answer : (ps : List ℕ) (a b c e e′ : Bool) (p q : Picture) →
+    answer (firstOf 1 (a ∷ b ∷ c ∷ true ∷ e′ ∷ [])) q ≡ movedPicture ps (answer (firstOf 1 (a ∷ b ∷ c ∷ true ∷ e ∷ [])) p)
 unfolding firstOf answer orRefused movedPicture
-bad-answer ps true b c e g e′ g′ p q = refl
-bad-answer ps false true c e g e′ g′ p q = refl
-bad-answer ps false false true e g e′ g′ p q = refl
-bad-answer ps false false false e g e′ g′ p q = refl
+bad-answer ps true b c e e′ p q = refl
+bad-answer ps false true c e e′ p q = refl
+bad-answer ps false false true e e′ p q = refl
+bad-answer ps false false false e e′ p q = refl
 
 module _ (ps : List ℕ) (n : ℕ) (o : Order ps n) (strategy : AutoscaleStrategy) (mode : SyntheticRgbMode) (c : isClahe strategy ≡ false) (rows cols : ℕ)
     (m1 : List ℕ) (d1 : List Float) (m2 : List ℕ) (d2 : List Float) (lent : Lent)
@@ -201,8 +201,7 @@ module _ (ps : List ℕ) (n : ℕ) (o : Order ps n) (strategy : AutoscaleStrateg
 
     tests-moved :
         pictureTests strategy rows cols (moved 0 ps m1) (moved nan ps d1) (moved 0 ps m2) (moved nan ps d2) lent (moved off ps (pixels m1 d1)) (moved off ps (pixels m2 d2))
-        (win strategy true (moved off ps (pixels m1 d1))) (win strategy false (moved off ps (pixels m2 d2)))
-        ≡ pictureTests strategy rows cols m1 d1 m2 d2 lent (pixels m1 d1) (pixels m2 d2) (win strategy true (pixels m1 d1)) (win strategy false (pixels m2 d2))
+        ≡ pictureTests strategy rows cols m1 d1 m2 d2 lent (pixels m1 d1) (pixels m2 d2)
     unfolding pictureTests
     tests-moved =
         cc (
@@ -214,8 +213,6 @@ module _ (ps : List ℕ) (n : ℕ) (o : Order ps n) (strategy : AutoscaleStrateg
           decibel-moved ps n o (pixels m2 d2) (pixels-size ps n o m2 d2 em2 ed2),
           tiles-moved ps n o strategy rows cols (pixels m1 d1) (pixels-size ps n o m1 d1 em1 ed1),
           tiles-moved ps n o strategy rows cols (pixels m2 d2) (pixels-size ps n o m2 d2 em2 ed2),
-          s1 .gamma,
-          s2 .gamma,
         )
 
     steady-picture :
@@ -246,7 +243,7 @@ module _ (ps : List ℕ) (n : ℕ) (o : Order ps n) (strategy : AutoscaleStrateg
         decibel-moved ps n o (pixels m2 d2) (pixels-size ps n o m2 d2 em2 ed2),
         h,
       )
-      (bad-answer ps _ _ _ _ _ _ _ _ _)
+      (bad-answer ps _ _ _ _ _ _ _)
 
   -- the claim, from windows that paint alike wherever no refusal 4 stands in the way
   pub reordered-picture :

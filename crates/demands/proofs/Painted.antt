@@ -11,6 +11,7 @@ use Rattle.types.specs.declared.WindowAnswer.{WindowAnswer}
 use Rattle.types.specs.declared.WindowAnswer.the-variants.{Window, Blank, Refused}
 use Rattle.spec.specs.Pixels.{Pixel, off}
 use Rattle.spec.specs.Strategies.{isClahe}
+use Rattle.spec.specs.Gamma.{BitDepth, greyValue}
 use Rattle.spec.specs.Value.{paint}
 use Rattle.spec.specs.Grey.{black, values}
 
@@ -25,24 +26,24 @@ not-clahe Tamed n = refl
 not-clahe Default n = refl
 
 -- the value of one pixel under a window
-unfoldable pub painter : Float → WindowAnswer → Pixel → ℕ
-painter full (Window low high range gamma) p = paint full low high range p
-painter full Blank p = 0
-painter full (Refused k) p = 0
+unfoldable pub painter : BitDepth → WindowAnswer → Pixel → ℕ
+painter depth (Window low high range gamma) p = paint (greyValue depth gamma low high range) p
+painter depth Blank p = 0
+painter depth (Refused k) p = 0
 
-pub painter-off : (full : Float) (w : WindowAnswer) → painter full w off ≡ 0
+pub painter-off : (depth : BitDepth) (w : WindowAnswer) → painter depth w off ≡ 0
 unfolding painter paint
-painter-off full (Window low high range gamma) = refl
-painter-off full Blank = refl
-painter-off full (Refused k) = refl
+painter-off depth (Window low high range gamma) = refl
+painter-off depth Blank = refl
+painter-off depth (Refused k) = refl
 
-pub values-map : (full : Float) (strategy : AutoscaleStrategy) → isClahe strategy ≡ false → (rows cols : ℕ) (px : List Pixel) (w : WindowAnswer) →
-    values full strategy rows cols px w ≡ map (painter full w) px
+pub values-map : (depth : BitDepth) (strategy : AutoscaleStrategy) → isClahe strategy ≡ false → (rows cols : ℕ) (px : List Pixel) (w : WindowAnswer) →
+    values depth strategy rows cols px w ≡ map (painter depth w) px
 unfolding values black painter
-values-map full strategy c rows cols px (Window low high range gamma) = rw c refl
-values-map full strategy c rows cols px Blank = refl
-values-map full strategy c rows cols px (Refused k) = refl
+values-map depth strategy c rows cols px (Window low high range gamma) = rw c refl
+values-map depth strategy c rows cols px Blank = refl
+values-map depth strategy c rows cols px (Refused k) = refl
 
-pub values-size : (full : Float) (strategy : AutoscaleStrategy) → isClahe strategy ≡ false → (rows cols : ℕ) (px : List Pixel) (w : WindowAnswer) →
-    length (values full strategy rows cols px w) ≡ length px
-values-size full strategy c rows cols px w = ap length (values-map full strategy c rows cols px w) ∙ length-map px (painter full w)
+pub values-size : (depth : BitDepth) (strategy : AutoscaleStrategy) → isClahe strategy ≡ false → (rows cols : ℕ) (px : List Pixel) (w : WindowAnswer) →
+    length (values depth strategy rows cols px w) ≡ length px
+values-size depth strategy c rows cols px w = ap length (values-map depth strategy c rows cols px w) ∙ length-map px (painter depth w)

@@ -126,7 +126,7 @@ module _ (ps : List ℕ) (n : ℕ) (o : Order ps n) (strategy : AutoscaleStrateg
   band-steady copol m d e f h g = steady-sym (window-steady strategy (r .0) copol _ _ (band-numbers ps n o m d e f h nowhere nowhere g))
     where
       steady-sym : {w w′ : _} → Steady w w′ → Steady w′ w
-      steady-sym s = record { gamma = sym (s .gamma); paints = λ full p. sym (s .paints full p) }
+      steady-sym s = record { paints = λ depth p. sym (s .paints depth p) }
 
   -- reply, greys and colours of the reordered scene are those of the scene, moved
   reordered : (mode : SyntheticRgbMode) (rows cols : ℕ) (m1 : List ℕ) (d1 : List Float) (m2 : List ℕ) (d2 : List Float) (lent : Lent) →

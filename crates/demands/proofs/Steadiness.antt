@@ -1,11 +1,11 @@
 -- Statistics that are the same numbers outside mean and deviation give windows that paint alike, in every strategy but Adaptive. Assumes nothing.
-use mathlib.Core.Path.{_≡_, refl, sym, ap, _∙_, subst}
+use mathlib.Core.Path.{_≡_, refl, sym, ap, ap₂, _∙_, subst}
 use mathlib.Core.Bool.{Bool, true, false, cond, true≢false}
 use mathlib.Core.List.{List, map, List·Permᴰ}
 use Prim.Native.Nat.{ℕ, min}
-use lib.Dec.{T, eqb}
+use lib.Dec.{T, eqb, leb}
 use lib.IntN.{pos}
-use lib.Ieee.{Float, fin, binary64, sub, div, lt, ne, ofBits}
+use lib.Ieee.{Float, fin, binary64, sub, div, lt, ofBits}
 use lib.Ieee.Positive.{positive}
 use Rattle.types.specs.declared.AutoscaleStrategy.{AutoscaleStrategy}
 use Rattle.types.specs.declared.AutoscaleStrategy.the-variants.{Standard, Robust, Adaptive, Equalized, Clahe, Tamed, Default}
@@ -26,8 +26,10 @@ use Rattle.spec.specs.Bins.{bins64, binOf, histogram, binsOf}
 use Rattle.spec.specs.Percentile.{targetOf, findBin, valueAt, flatPercentile, spreadPercentile, estimatePercentile}
 use Rattle.spec.specs.Statistics.{gathered, summary}
 use Rattle.spec.specs.Strategies.{isTamed}
-use Rattle.spec.specs.Value.{normalized, valueOf, paint}
-use Rattle.spec.specs.Window.{validRange, lowContrastClip, outlier, heavyTailedClip, highRangeClip, normalClip, standardClip, robustClip, chooseClip, tamedClip, opened, pictureWindow, gammaRefused}
+use Rattle.spec.specs.Gamma.{BitDepth, U8, U16, over, under, curve, curved, greyValue}
+use Rattle.spec.specs.Value.{full8, full16, normalized, valueOf, paint}
+use Rattle.gamma.proofs.Laws.{gamma-alike}
+use Rattle.spec.specs.Window.{validRange, lowContrastClip, outlier, heavyTailedClip, highRangeClip, normalClip, standardClip, robustClip, chooseClip, tamedClip, opened, pictureWindow}
 use Rattle.lists.proofs.Counts.{counts-perm}
 use Rattle.lists.proofs.Reorder.{perm-map, map-same}
 use Rattle.numeric.proofs.Alike.{add-alike, sub-alike, mul-alike, mul-alike-right, div-alike, lt-alike, maxFloat-alike, minFloat-alike, clampFloat-alike, whole-alike, maxFloat-same}
@@ -63,6 +65,14 @@ value-alike : (full range v : Float) {low low′ high high′ : Float} → Alike
     valueOf full low high range v ≡ valueOf full low′ high′ range v
 unfolding valueOf normalized
 value-alike full range v p q = whole-alike (clampFloat-alike same same (mul-alike full (div-alike range (sub-alike (clampFloat-alike p q same) p))))
+
+grey-alike : (depth : BitDepth) (gamma range v : Float) {low low′ high high′ : Float} → Alike low low′ → Alike high high′ →
+    greyValue depth gamma low high range v ≡ greyValue depth gamma low′ high′ range v
+unfolding greyValue curved normalized
+grey-alike U8 gamma range v p q =
+    ap₂ (λ (x y : ℕ). cond (leb 3 (curve gamma)) x y) (value-alike full8 range v p q)
+    (gamma-alike (over (curve gamma)) (under (curve gamma)) (div-alike range (sub-alike (clampFloat-alike p q same) p)))
+grey-alike U16 gamma range v p q = value-alike full16 range v p q
 
 -- ---- statistics
 
@@ -233,16 +243,15 @@ module _ (s s′ : HistogramStats) (h : SameNumbers s s′) where
 
 -- two windows of which one paints as the other
 pub record Steady (w w′ : WindowAnswer) : Type 0 where
-  pub gamma : gammaRefused w ≡ gammaRefused w′
-  pub paints : (full : Float) (p : Pixel) → painter full w p ≡ painter full w′ p
+  pub paints : (depth : BitDepth) (p : Pixel) → painter depth w p ≡ painter depth w′ p
 
 opened-alike : (c c′ : Clip) → SameClip c c′ → Steady (opened c) (opened c′)
-unfolding opened gammaRefused painter paint
-opened-alike c c′ a = record { gamma = ap (λ (g : Float). ne g one64) (a .gamma); paints = paints }
+unfolding opened painter paint
+opened-alike c c′ a = record { paints = paints }
   where
-    paints : (full : Float) (p : Pixel) → painter full (opened c) p ≡ painter full (opened c′) p
-    paints full off = refl
-    paints full (on v) = rw (range-alike (a .low) (a .high)) (value-alike full _ v (a .low) (a .high))
+    paints : (depth : BitDepth) (p : Pixel) → painter depth (opened c) p ≡ painter depth (opened c′) p
+    paints depth off = refl
+    paints depth (on v) = rw (range-alike (a .low) (a .high), a .gamma) (grey-alike depth (c′ .gamma) _ v (a .low) (a .high))
 
 -- the window that a picture paints a band with
 pub window-steady : (strategy : AutoscaleStrategy) → (strategy ≡ Adaptive → ⊥) → (copol : Bool) (s s′ : HistogramStats) → SameNumbers s s′ →
@@ -256,7 +265,7 @@ window-steady strategy n copol s s′ h =
     which false = chooseClip-alike s s′ h strategy n
 
     none : (t t′ : Bool) → t ≡ t′ → {w w′ : WindowAnswer} → Steady w w′ → Steady (cond t Blank w) (cond t′ Blank w′)
-    none true true e k = record { gamma = refl; paints = λ full p. refl }
+    none true true e k = record { paints = λ depth p. refl }
     none false false e k = k
     none true false e k = absurd (true≢false e)
     none false true e k = absurd (true≢false (sym e))

@@ -3,3 +3,4 @@ pub mod GreyOrder
 pub mod Reordering
 pub mod Beside
 pub mod Echo
+pub mod Sixth

@@ -23,12 +23,13 @@ use lib.Ieee.Scale.{finite}
 use Rattle.spec.specs.Floats.{zero64, half64, ofCount, clampFloat, roundAsU64}
 use Rattle.spec.specs.Value.{full16}
 use Rattle.numeric.proofs.Order.{plus, less, le→cross, finite-between, le-of-not-lt, lt-not-ge, number-of-finite, le-right, le-trans as le-trans'}
+use Rattle.numeric.specs.Round.{big64}
 use Rattle.numeric.proofs.Facts.{holds, fails}
 use Rattle.numeric.proofs.Picks.{clamped-lo, clamped-hi, toUnsigned-le}
 use Rattle.numeric.proofs.Ops.{add-rounds}
 use Rattle.numeric.proofs.Round.{Rounds}
 use Rattle.numeric.proofs.Away.{half-more, turned, up-from, down-from}
-use Rattle.numeric.proofs.Values.{count-value, count-sub, value-finite, value-below, value-above, nothing-less, whole-of}
+use Rattle.numeric.proofs.Values.{count-value, count-sub, value-finite, value-below, value-above, nothing-less, whole-of, count-back}
 
 -- ---- the nearest whole number is at most a half away
 abbrev Cmp : Ordering → ℕ → ℕ → Type 0
@@ -108,10 +109,6 @@ whole-round A D P h k =
     (count-value q small)
 
 -- ---- x + 2^52, and 2^52 off again
--- 4503599627370496.0
-abbrev pub big64 : Float
-big64 = ofBits binary64 0x4330_0000_0000_0000
-
 big-count : big64 ≡ ofCount (2 ^ 52)
 unfolding ofBits ofInt round
 big-count = refl
@@ -208,6 +205,9 @@ module _ {x r : Float} (c : Near x r) where
 
   pub few : cast ≤ 65535
   few = omega (arith, is-whole, c .small)
+
+  pub nearest-is : cast ≡ toUnsigned 64 r
+  nearest-is = is-whole ∙ sym (ap (toUnsigned 64) (c .is) ∙ count-back 64 (c .whole) (omega (arith, c .small)) (omega (arith, c .small)))
 
   pub not-above : lt x r ≡ false → cast ≡ toUnsigned 64 x
   not-above e =

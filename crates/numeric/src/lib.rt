@@ -5,7 +5,7 @@ ghost use lib.Dec.{T};
 ghost use lib.Ieee.{binary32, binary64, toUnsigned, ofBits, le};
 ghost use Rattle.spec.specs.Floats.{zero64, maxFloat, minFloat, clampFloat, absFloat, roundAsU64};
 ghost use Rattle.spec.specs.Value.{full16};
-ghost use Rattle.numeric.specs.Round.{roundFloat};
+ghost use Rattle.numeric.specs.Round.{roundFloat, nearestSmall};
 ghost use Rattle.spec.specs.Value as Value;
 ghost use Rattle.spec.specs.Root.{wholeRoot, rootOf, sqrtFloat};
 
@@ -185,6 +185,15 @@ pub fn trunc_small(x: f64) -> u32
     let nearest = x + 4503599627370496.0 - 4503599627370496.0;
     let n = nearest as i32 as u32;
     if nearest > x { n - 1 } else { n }
+}
+
+// The nearest whole number of an x from 0.0 to 65535.0: whatever 2^52 added and taken off leaves.
+pub fn nearest_small(x: f64) -> u32
+    requires { ⌜ T (le zero64 x) ⌝ ∗ ⌜ T (le x full16) ⌝ }
+    ensures { λ r. ⌜ r ≡ nearestSmall x ⌝ }
+{
+    let nearest = x + 4503599627370496.0 - 4503599627370496.0;
+    nearest as i32 as u32
 }
 
 // `round` for an x from 0.0 to 65535.0: half away from zero.

@@ -16,12 +16,12 @@ use Rattle.spec.specs.Picture.{pictureTests}
 use Rattle.spec.specs.Pixels.{Pixel, pixels}
 use Rattle.spec.specs.Refusals.{sidesRefused, marksRefused, decibelsRefused, tilesRefused}
 use Rattle.spec.specs.Statistics.{statisticsOf}
-use Rattle.spec.specs.Window.{pictureWindow, gammaRefused}
+use Rattle.spec.specs.Window.{pictureWindow}
 use Rattle.autoscale.specs.Bands.{bandPictureWindow}
 use Rattle.pipeline.specs.declared.windows.PictureWindows.{PictureWindows}
 use Rattle.pipeline.specs.declared.windows.PictureWindows.the-variants as Both
 use Rattle.pipeline.specs.Windows.{windowTilesRefused, pictureLengthsRefused, pictureWindows}
-use Rattle.pipeline.proofs.Tests.{at-shape, at-four, at-five, at-six, at-none}
+use Rattle.pipeline.proofs.Tests.{at-shape, at-four, at-five, at-none}
 use Rattle.pipeline.proofs.Windowed.{picture-open, tiles-picture, banded-bad, banded-good}
 
 -- a test over both bands
@@ -58,14 +58,14 @@ module _ (strategy : AutoscaleStrategy) (rows cols : ℕ) (m1 : List ℕ) (d1 : 
 
   pub picture-shape : (k : ℕ) → k ≡ firstOf 1 shape → (k ≡ 0 → ⊥) → Both.Refused k ≡ W
   unfolding pictureWindows pictureTests
-  picture-shape k e n = at-shape Both.Refused both _ _ _ _ _ _ k e n
+  picture-shape k e n = at-shape Both.Refused both _ _ _ _ _ k e n
 
   module _ (good : firstOf 1 shape ≡ 0) (w1 : WindowAnswer) (q1 : w1 ≡ bandPictureWindow strategy true px1) where
     pub picture-bad-first : (k : ℕ) → w1 ≡ Refused k → Both.Refused k ≡ W
     unfolding pictureWindows pictureTests bandPictureWindow
     picture-bad-first k e =
         let b = banded-bad w01 w1 (decibelsRefused px1) k (picture-open strategy true (statisticsOf px1)) q1 e in
-        ap Both.Refused (sym (b .1)) ∙ at-four Both.Refused both _ _ _ _ _ _ good (either-first (decibelsRefused px2) (b .0))
+        ap Both.Refused (sym (b .1)) ∙ at-four Both.Refused both _ _ _ _ _ good (either-first (decibelsRefused px2) (b .0))
 
     module _ (o1 : OneOf (0 ∷ 1 ∷ []) (tagOf the-type w1)) (w2 : WindowAnswer) (q2 : w2 ≡ bandPictureWindow strategy false px2) where
       known1 : (decibelsRefused px1 ≡ false) × (w1 ≡ w01)
@@ -76,7 +76,7 @@ module _ (strategy : AutoscaleStrategy) (rows cols : ℕ) (m1 : List ℕ) (d1 : 
       unfolding pictureWindows pictureTests bandPictureWindow
       picture-bad-second k e =
           let b = banded-bad w02 w2 (decibelsRefused px2) k (picture-open strategy false (statisticsOf px2)) q2 e in
-          ap Both.Refused (sym (b .1)) ∙ at-four Both.Refused both _ _ _ _ _ _ good (either-second (known1 .0) (b .0))
+          ap Both.Refused (sym (b .1)) ∙ at-four Both.Refused both _ _ _ _ _ good (either-second (known1 .0) (b .0))
 
       module _ (o2 : OneOf (0 ∷ 1 ∷ []) (tagOf the-type w2)) where
         known2 : (decibelsRefused px2 ≡ false) × (w2 ≡ w02)
@@ -89,20 +89,12 @@ module _ (strategy : AutoscaleStrategy) (rows cols : ℕ) (m1 : List ℕ) (d1 : 
         tiles-are : tiles ≡ (tilesRefused strategy rows cols px1 || tilesRefused strategy rows cols px2)
         tiles-are = both-same (tiles-picture strategy rows cols px1 true w1 (known1 .1)) (tiles-picture strategy rows cols px2 false w2 (known2 .1))
 
-        gammas : (gammaRefused w1 || gammaRefused w2) ≡ (gammaRefused w01 || gammaRefused w02)
-        gammas = both-same (ap gammaRefused (known1 .1)) (ap gammaRefused (known2 .1))
-
         pub picture-tiles : tiles ≡ true → Both.Refused 5 ≡ W
         unfolding pictureWindows pictureTests
-        picture-tiles e = at-five Both.Refused both _ _ _ _ _ _ good (either-second (known1 .0) (known2 .0)) (sym tiles-are ∙ e)
+        picture-tiles e = at-five Both.Refused both _ _ _ _ _ good (either-second (known1 .0) (known2 .0)) (sym tiles-are ∙ e)
 
-        module _ (t : tiles ≡ false) where
-          pub picture-gamma : (gammaRefused w1 || gammaRefused w2) ≡ true → Both.Refused 6 ≡ W
-          unfolding pictureWindows pictureTests
-          picture-gamma e = at-six Both.Refused both _ _ _ _ _ _ good (either-second (known1 .0) (known2 .0)) (sym tiles-are ∙ t) (sym gammas ∙ e)
-
-          pub picture-unrefused : (gammaRefused w1 || gammaRefused w2) ≡ false → Both.Windows w1 w2 ≡ W
-          unfolding pictureWindows pictureTests
-          picture-unrefused e =
-              ap (λ (w : WindowAnswer). Both.Windows w w2) (known1 .1) ∙ ap (λ (w : WindowAnswer). Both.Windows w01 w) (known2 .1)
-              ∙ at-none Both.Refused both _ _ _ _ _ _ good (either-second (known1 .0) (known2 .0)) (sym tiles-are ∙ t) (sym gammas ∙ e)
+        pub picture-unrefused : tiles ≡ false → Both.Windows w1 w2 ≡ W
+        unfolding pictureWindows pictureTests
+        picture-unrefused t =
+            ap (λ (w : WindowAnswer). Both.Windows w w2) (known1 .1) ∙ ap (λ (w : WindowAnswer). Both.Windows w01 w) (known2 .1)
+            ∙ at-none Both.Refused both _ _ _ _ _ good (either-second (known1 .0) (known2 .0)) (sym tiles-are ∙ t)

@@ -18,18 +18,17 @@ use Rattle.spec.specs.Pixels.{Pixel, pixels}
 use Rattle.spec.specs.Statistics.{statisticsOf}
 use Rattle.spec.specs.Strategies.{isClahe, isTamed}
 use Rattle.spec.specs.Stretch.{stretch}
-use Rattle.spec.specs.Value.{full8}
-use Rattle.spec.specs.Window.{pictureWindow, gammaRefused}
+use Rattle.spec.specs.Gamma.{U8}
+use Rattle.spec.specs.Window.{pictureWindow}
 use Rattle.autoscale.specs.Painted.{plainValues, opens}
 use Rattle.autoscale.proofs.Painted.{values-outside}
-use Rattle.raster.proofs.Bands.{or-false}
+use Rattle.gamma.proofs.Gammas.{gammas}
 use Rattle.pipeline.specs.declared.windows.PictureWindows.{PictureWindows}
 use Rattle.pipeline.specs.declared.windows.PictureWindows.the-variants as Both
 use Rattle.pipeline.specs.Windows.{unless, pictureWindows}
 use Rattle.pipeline.specs.Work.{uses, Kept}
 use Rattle.pipeline.proofs.Accepted.{PictureSized, picture-sized}
-use Rattle.pipeline.proofs.Greys.{opens-unrefused, last-clear}
-use Rattle.pipeline.proofs.Windowed.{picture-open}
+use Rattle.pipeline.proofs.Greys.{opens-usual}
 
 -- ---- one band
 
@@ -44,11 +43,11 @@ tamed-outside Tamed e = refl
 tamed-outside Default e = refl
 
 module _ (strategy : AutoscaleStrategy) (rows cols : ℕ) (px : List Pixel) (w : WindowAnswer) where
-  pub greys-tamed : isTamed strategy ≡ true → plainValues full8 px w ≡ pictureGreys strategy rows cols px w
+  pub greys-tamed : isTamed strategy ≡ true → plainValues U8 px w ≡ pictureGreys strategy rows cols px w
   unfolding pictureGreys
-  greys-tamed e = rw e (sym (values-outside full8 strategy rows cols px w (tamed-outside strategy e)))
+  greys-tamed e = rw e (sym (values-outside U8 strategy rows cols px w (tamed-outside strategy e)))
 
-  pub greys-stretched : isTamed strategy ≡ false → stretch (values full8 strategy rows cols px w) ≡ pictureGreys strategy rows cols px w
+  pub greys-stretched : isTamed strategy ≡ false → stretch (values U8 strategy rows cols px w) ≡ pictureGreys strategy rows cols px w
   unfolding pictureGreys
   greys-stretched e = rw e
 
@@ -84,7 +83,7 @@ module _ (strategy : AutoscaleStrategy) (rows cols : ℕ) (m1 : List ℕ) (d1 : 
   w02 = pictureWindow strategy false (statisticsOf px2)
 
   abbrev n : ℕ
-  n = firstOf 1 (pictureTests strategy rows cols m1 d1 m2 d2 lent px1 px2 w01 w02)
+  n = firstOf 1 (pictureTests strategy rows cols m1 d1 m2 d2 lent px1 px2)
 
   abbrev greys : WindowAnswer → List Pixel → List ℕ
   greys v px = pictureGreys strategy rows cols px v
@@ -118,19 +117,15 @@ module _ (strategy : AutoscaleStrategy) (rows cols : ℕ) (m1 : List ℕ) (d1 : 
     unfolding pictureWindows
     parts = unless-windows n w01 w02 w1 w2 (sym is ∙ e)
 
-    gammas : (gammaRefused w01 ≡ false) × (gammaRefused w02 ≡ false)
-    unfolding pictureTests
-    gammas = or-false (gammaRefused w01) (gammaRefused w02) (last-clear _ _ _ _ _ (gammaRefused w01 || gammaRefused w02) (parts .0))
-
     -- both windows are known, and nothing is refused
     pub picture-asks : PictureSized strategy rows cols m1 d1 m2 d2 lent
     unfolding pictureTests
     picture-asks = picture-sized strategy rows cols m1 d1 m2 d2 lent _ (parts .0)
 
-    pub picture-opens : (opens w1 ≡ true) × (opens w2 ≡ true)
+    pub picture-opens : (opens U8 w1 ≡ true) × (opens U8 w2 ≡ true)
     picture-opens = (
-      rw (parts .1) (opens-unrefused w01 (picture-open strategy true (statisticsOf px1)) (gammas .0)),
-      rw (parts .2) (opens-unrefused w02 (picture-open strategy false (statisticsOf px2)) (gammas .1)),
+      rw (parts .1) (opens-usual w01 (gammas .picture strategy true (statisticsOf px1))),
+      rw (parts .2) (opens-usual w02 (gammas .picture strategy false (statisticsOf px2))),
     )
 
     is-done : owed ≡ done painted

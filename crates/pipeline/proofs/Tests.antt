@@ -1,4 +1,4 @@
--- Six tests in the table's order, of which the first three are decided at once. Assumes nothing.
+-- Five tests in the table's order, of which the first three are decided at once. Assumes nothing.
 use mathlib.Core.Path.{_≡_, refl, sym, ap, _∙_}
 use mathlib.Core.Bool.{Bool, true, false}
 use mathlib.Core.List.{List, [], _∷_}
@@ -18,12 +18,12 @@ module _ {A : Type 0} (refuse : ℕ → A) (v : A) where
   unfolding unless
   unless-not k e = rw e
 
-  module _ (a b c d e f : Bool) where
+  module _ (a b c d e : Bool) where
     abbrev shape : List Bool
     shape = a ∷ b ∷ c ∷ []
 
     abbrev all : List Bool
-    all = a ∷ b ∷ c ∷ d ∷ e ∷ f ∷ []
+    all = a ∷ b ∷ c ∷ d ∷ e ∷ []
 
     abbrev answered : A
     answered = unless refuse (firstOf 1 all) v
@@ -33,28 +33,21 @@ module _ {A : Type 0} (refuse : ℕ → A) (v : A) where
 
     -- 1 to 3
     pub at-shape : (k : ℕ) → k ≡ firstOf 1 shape → (k ≡ 0 → ⊥) → refuse k ≡ answered
-    at-shape k q n = refused-by k n (sym (first-stays 1 shape (d ∷ e ∷ f ∷ []) (λ z. n (q ∙ z))) ∙ sym q)
+    at-shape k q n = refused-by k n (sym (first-stays 1 shape (d ∷ e ∷ []) (λ z. n (q ∙ z))) ∙ sym q)
 
     module _ (good : firstOf 1 shape ≡ 0) where
-      later : firstOf 1 all ≡ firstOf 4 (d ∷ e ∷ f ∷ [])
-      later = first-later 0 shape (d ∷ e ∷ f ∷ []) good
+      later : firstOf 1 all ≡ firstOf 4 (d ∷ e ∷ [])
+      later = first-later 0 shape (d ∷ e ∷ []) good
 
       pub at-four : d ≡ true → refuse 4 ≡ answered
-      at-four q = refused-by 4 (λ z. omega (arith, z)) (later ∙ first-here 4 d (e ∷ f ∷ []) q)
+      at-four q = refused-by 4 (λ z. omega (arith, z)) (later ∙ first-here 4 d (e ∷ []) q)
 
       module _ (no-four : d ≡ false) where
-        from-five : firstOf 1 all ≡ firstOf 5 (e ∷ f ∷ [])
-        from-five = later ∙ first-not-here 4 d (e ∷ f ∷ []) no-four
+        from-five : firstOf 1 all ≡ firstOf 5 (e ∷ [])
+        from-five = later ∙ first-not-here 4 d (e ∷ []) no-four
 
         pub at-five : e ≡ true → refuse 5 ≡ answered
-        at-five q = refused-by 5 (λ z. omega (arith, z)) (from-five ∙ first-here 5 e (f ∷ []) q)
+        at-five q = refused-by 5 (λ z. omega (arith, z)) (from-five ∙ first-here 5 e [] q)
 
-        module _ (no-five : e ≡ false) where
-          from-six : firstOf 1 all ≡ firstOf 6 (f ∷ [])
-          from-six = from-five ∙ first-not-here 5 e (f ∷ []) no-five
-
-          pub at-six : f ≡ true → refuse 6 ≡ answered
-          at-six q = refused-by 6 (λ z. omega (arith, z)) (from-six ∙ first-here 6 f [] q)
-
-          pub at-none : f ≡ false → v ≡ answered
-          at-none q = unless-not (firstOf 1 all) (from-six ∙ first-not-here 6 f [] q ∙ first-none 7)
+        pub at-none : e ≡ false → v ≡ answered
+        at-none q = unless-not (firstOf 1 all) (from-five ∙ first-not-here 5 e [] q ∙ first-none 6)

@@ -1,7 +1,7 @@
 -- What the calls know before they write: their windows, with the refusals folded in. Definitions only.
 use Prim.Native.Nat.{ℕ, zero, suc, _*_}
 use mathlib.Core.Bool.{Bool, true, false, _&&_, _||_}
-use mathlib.Core.List.{List}
+use mathlib.Core.List.{List, [], _∷_, _++_}
 use lib.Ieee.{Float}
 use Rattle.types.specs.declared.AutoscaleStrategy.{AutoscaleStrategy}
 use Rattle.types.specs.declared.Lent.{Lent}
@@ -14,7 +14,7 @@ use Rattle.spec.specs.Pixels.{pixels}
 use Rattle.spec.specs.Refusals.{lengthsRefused, unlike, workRefused, sideRefused}
 use Rattle.spec.specs.Statistics.{statisticsOf}
 use Rattle.spec.specs.Strategies.{isClahe}
-use Rattle.spec.specs.Window.{windowOf, pictureWindow}
+use Rattle.spec.specs.Window.{windowOf, pictureWindow, gammaRefused}
 use Rattle.pipeline.specs.declared.windows.PictureWindows.{PictureWindows}
 use Rattle.pipeline.specs.declared.windows.PictureWindows.the-variants as Both
 
@@ -38,7 +38,14 @@ unfoldable pub greyWindow : AutoscaleStrategy → ℕ → ℕ → List ℕ → L
 greyWindow strategy rows cols marks db out work =
     let px = pixels marks db in
     let w = windowOf strategy (statisticsOf px) in
-    unless Refused (firstOf 1 (greyTests strategy rows cols marks db out work px w)) w
+    unless Refused (firstOf 1 (greyTests strategy rows cols marks db out work px)) w
+
+-- the same at U16, where 6 follows
+unfoldable pub greyWindow16 : AutoscaleStrategy → ℕ → ℕ → List ℕ → List Float → ℕ → ℕ → WindowAnswer
+greyWindow16 strategy rows cols marks db out work =
+    let px = pixels marks db in
+    let w = windowOf strategy (statisticsOf px) in
+    unless Refused (firstOf 1 (greyTests strategy rows cols marks db out work px ++ (gammaRefused w ∷ []))) w
 
 -- 2 of a picture, as `pictureTests` has it
 abbrev pub pictureLengthsRefused : AutoscaleStrategy → ℕ → ℕ → List ℕ → List Float → List ℕ → List Float → Lent → Bool
@@ -53,4 +60,4 @@ pictureWindows strategy rows cols marks1 db1 marks2 db2 lent =
     let px2 = pixels marks2 db2 in
     let w1 = pictureWindow strategy true (statisticsOf px1) in
     let w2 = pictureWindow strategy false (statisticsOf px2) in
-    unless Both.Refused (firstOf 1 (pictureTests strategy rows cols marks1 db1 marks2 db2 lent px1 px2 w1 w2)) (Both.Windows w1 w2)
+    unless Both.Refused (firstOf 1 (pictureTests strategy rows cols marks1 db1 marks2 db2 lent px1 px2)) (Both.Windows w1 w2)

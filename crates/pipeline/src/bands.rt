@@ -1,4 +1,4 @@
-// The greys of one band from its window, by strategy. Painting starts only from a window of gamma 1.0: a refused one never comes here.
+// The greys of one band from its window, by strategy. A refused window never comes here, nor at 16 bits one of another gamma than 1.0.
 ghost use mathlib.Core.Path.{_≡_};
 ghost use mathlib.Core.Bool.{true};
 ghost use lib.ListN.{length};
@@ -8,7 +8,7 @@ ghost use Rattle.spec.specs.Picture.{pictureGreys};
 ghost use Rattle.spec.specs.Pixels.{pixels};
 ghost use Rattle.spec.specs.Strategies.{isClahe};
 ghost use Rattle.spec.specs.Stretch as Stretch;
-ghost use Rattle.spec.specs.Value.{full8, full16};
+ghost use Rattle.spec.specs.Gamma.{U8, U16};
 ghost use Rattle.autoscale.specs.Painted.{opens};
 ghost use Rattle.pipeline.specs.Ready.{Ready};
 ghost use Rattle.pipeline.specs.Work.{Kept};
@@ -37,8 +37,8 @@ fn tiled_greys_u8(
     out: &mut [u8],
     work: &mut [f64],
 )
-    requires { ⌜ Ready Clahe sides (now «valid_mask») (now db) (length (now out)) (length (now work)) ⌝ ∗ ⌜ opens window ≡ true ⌝ }
-    ensures { λ _. ⌜ now (out .exit) ≡ Stretch.stretch (values full8 Clahe (sides .rows) (sides .cols) (pixels (now («valid_mask» .entry)) (now (db .entry))) window) ⌝ }
+    requires { ⌜ Ready Clahe sides (now «valid_mask») (now db) (length (now out)) (length (now work)) ⌝ ∗ ⌜ opens U8 window ≡ true ⌝ }
+    ensures { λ _. ⌜ now (out .exit) ≡ Stretch.stretch (values U8 Clahe (sides .rows) (sides .cols) (pixels (now («valid_mask» .entry)) (now (db .entry))) window) ⌝ }
 {
     let WindowAnswer::Window {
         low,
@@ -75,8 +75,8 @@ fn tiled_values_u16(
     out: &mut [u16],
     work: &mut [f64],
 )
-    requires { ⌜ Ready Clahe sides (now «valid_mask») (now db) (length (now out)) (length (now work)) ⌝ ∗ ⌜ opens window ≡ true ⌝ }
-    ensures { λ _. ⌜ now (out .exit) ≡ values full16 Clahe (sides .rows) (sides .cols) (pixels (now («valid_mask» .entry)) (now (db .entry))) window ⌝ }
+    requires { ⌜ Ready Clahe sides (now «valid_mask») (now db) (length (now out)) (length (now work)) ⌝ ∗ ⌜ opens U16 window ≡ true ⌝ }
+    ensures { λ _. ⌜ now (out .exit) ≡ values U16 Clahe (sides .rows) (sides .cols) (pixels (now («valid_mask» .entry)) (now (db .entry))) window ⌝ }
 {
     let WindowAnswer::Window {
         low,
@@ -113,8 +113,8 @@ pub(crate) fn greys_u8(
     out: &mut [u8],
     work: &mut [f64],
 )
-    requires { ⌜ Ready strategy sides (now «valid_mask») (now db) (length (now out)) (length (now work)) ⌝ ∗ ⌜ opens window ≡ true ⌝ }
-    ensures { λ _. ⌜ now (out .exit) ≡ Stretch.stretch (values full8 strategy (sides .rows) (sides .cols) (pixels (now («valid_mask» .entry)) (now (db .entry))) window) ⌝ }
+    requires { ⌜ Ready strategy sides (now «valid_mask») (now db) (length (now out)) (length (now work)) ⌝ ∗ ⌜ opens U8 window ≡ true ⌝ }
+    ensures { λ _. ⌜ now (out .exit) ≡ Stretch.stretch (values U8 strategy (sides .rows) (sides .cols) (pixels (now («valid_mask» .entry)) (now (db .entry))) window) ⌝ }
     ensures { λ _. ⌜ Kept (isClahe strategy) (now (work .entry)) (now (work .exit)) ⌝ }
 {
     if strategies::is_clahe(strategy) {
@@ -134,8 +134,8 @@ pub(crate) fn values_u16(
     out: &mut [u16],
     work: &mut [f64],
 )
-    requires { ⌜ Ready strategy sides (now «valid_mask») (now db) (length (now out)) (length (now work)) ⌝ ∗ ⌜ opens window ≡ true ⌝ }
-    ensures { λ _. ⌜ now (out .exit) ≡ values full16 strategy (sides .rows) (sides .cols) (pixels (now («valid_mask» .entry)) (now (db .entry))) window ⌝ }
+    requires { ⌜ Ready strategy sides (now «valid_mask») (now db) (length (now out)) (length (now work)) ⌝ ∗ ⌜ opens U16 window ≡ true ⌝ }
+    ensures { λ _. ⌜ now (out .exit) ≡ values U16 strategy (sides .rows) (sides .cols) (pixels (now («valid_mask» .entry)) (now (db .entry))) window ⌝ }
     ensures { λ _. ⌜ Kept (isClahe strategy) (now (work .entry)) (now (work .exit)) ⌝ }
 {
     if strategies::is_clahe(strategy) {
@@ -155,7 +155,7 @@ pub(crate) fn picture_greys(
     out: &mut [u8],
     work: &mut [f64],
 )
-    requires { ⌜ Ready strategy sides (now «valid_mask») (now db) (length (now out)) (length (now work)) ⌝ ∗ ⌜ opens window ≡ true ⌝ }
+    requires { ⌜ Ready strategy sides (now «valid_mask») (now db) (length (now out)) (length (now work)) ⌝ ∗ ⌜ opens U8 window ≡ true ⌝ }
     ensures { λ _. ⌜ now (out .exit) ≡ pictureGreys strategy (sides .rows) (sides .cols) (pixels (now («valid_mask» .entry)) (now (db .entry))) window ⌝ }
     ensures { λ _. ⌜ Kept (isClahe strategy) (now (work .entry)) (now (work .exit)) ⌝ }
 {

@@ -53,7 +53,15 @@ pub fn autoscale_db_image_to_u16(
     ensures greys { λ _. ⌜ now (out .exit) ≡ after (λ l. l) (answerU16 strategy rows cols (now («valid_mask» .entry)) (now (db .entry)) (now (out .entry)) (now (work .entry))) (now (out .entry)) ⌝ }
     ensures work { λ _. ⌜ Kept (uses strategy (answerU16 strategy rows cols (now («valid_mask» .entry)) (now (db .entry)) (now (out .entry)) (now (work .entry)))) (now (work .entry)) (now (work .exit)) ⌝ }
 {
-    let window = windows::grey_window(rows, cols, strategy, db, valid_mask, out.len(), work.len());
+    let window = windows::grey_window_u16(
+        rows,
+        cols,
+        strategy,
+        db,
+        valid_mask,
+        out.len(),
+        work.len(),
+    );
     if let WindowAnswer::Refused(k) = window {
         return Reply::Refused(k);
     }

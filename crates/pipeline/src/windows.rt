@@ -5,8 +5,7 @@ ghost use mathlib.Core.List.{_∷_, []};
 ghost use Prim.Native.Nat.{_*_, _≤_};
 ghost use Rattle.spec.specs.Answer.{firstOf};
 ghost use Rattle.spec.specs.Refusals.{sidesRefused, lengthsRefused, unlike, workRefused, marksRefused};
-ghost use Rattle.spec.specs.Window.{gammaRefused};
-ghost use Rattle.pipeline.specs.Windows.{windowTilesRefused, greyWindow, pictureLengthsRefused, pictureWindows};
+ghost use Rattle.pipeline.specs.Windows.{windowTilesRefused, greyWindow, greyWindow16, pictureLengthsRefused, pictureWindows};
 use crate::strategies;
 use types::AutoscaleStrategy;
 use types::Lent;
@@ -124,6 +123,22 @@ pub(crate) fn grey_window(
     if window_tiles_refused(strategy, rows, cols, window) {
         return WindowAnswer::Refused(5);
     }
+    window
+}
+
+// The same at 16 bits, where another gamma than 1.0 is refused.
+pub(crate) fn grey_window_u16(
+    rows: usize,
+    cols: usize,
+    strategy: AutoscaleStrategy,
+    db: &[f64],
+    valid_mask: &[u8],
+    out: usize,
+    work: usize,
+) -> WindowAnswer
+    ensures { λ r. ⌜ r ≡ greyWindow16 strategy rows cols (now («valid_mask» .entry)) (now (db .entry)) out work ⌝ }
+{
+    let window = grey_window(rows, cols, strategy, db, valid_mask, out, work);
     if autoscale::gamma_refused(window) {
         return WindowAnswer::Refused(6);
     }
@@ -227,16 +242,6 @@ fn either_tiles_refused(
     window_tiles_refused(strategy, rows, cols, window2)
 }
 
-// 6 of a picture.
-fn either_gamma_refused(window1: WindowAnswer, window2: WindowAnswer) -> bool
-    ensures { λ r. ⌜ r ≡ (gammaRefused window1 || gammaRefused window2) ⌝ }
-{
-    if autoscale::gamma_refused(window1) {
-        return true;
-    }
-    autoscale::gamma_refused(window2)
-}
-
 // Both windows of a picture, or the number that refuses the call: each number is tested over both bands before the next. Band 1 counts as co-pol.
 pub(crate) fn picture_windows(
     rows: usize,
@@ -273,9 +278,6 @@ pub(crate) fn picture_windows(
     }
     if either_tiles_refused(strategy, rows, cols, window1, window2) {
         return PictureWindows::Refused(5);
-    }
-    if either_gamma_refused(window1, window2) {
-        return PictureWindows::Refused(6);
     }
     PictureWindows::Windows(window1, window2)
 }

@@ -260,14 +260,14 @@ fn one_grey() {
     reply_bytes(reply, &out);
 }
 
-// Done or refused, whatever the greys.
+// Done or refused at 16 bits, whatever the greys.
 fn standard_grey(line: &[u8], v: f64) {
     text(line);
     let db = [0.0, v];
     let valid_mask = [1u8, 1];
-    let mut out = [165u8; 2];
+    let mut out = [42405u16; 2];
     let mut work = [0.0; 1];
-    let reply = pipeline::autoscale_db_image_to_u8(
+    let reply = pipeline::autoscale_db_image_to_u16(
         1,
         2,
         AutoscaleStrategy::Standard,
@@ -409,10 +409,20 @@ fn greys() {
         0.5,
     );
     one_grey();
-    standard_grey(b"Standard, 0, 14: ", 14.0);
-    standard_grey(b"Standard, 0, 15: ", 15.0);
-    standard_grey(b"Standard, 0, 40: ", 40.0);
-    standard_grey(b"Standard, 0, 41: ", 41.0);
+    standard_grey(b"Standard, 0, 14, U16: ", 14.0);
+    standard_grey(b"Standard, 0, 15, U16: ", 15.0);
+    standard_grey(b"Standard, 0, 40, U16: ", 40.0);
+    standard_grey(b"Standard, 0, 41, U16: ", 41.0);
+    grey_u8(
+        b"Standard, 0, 14, U8 grey: ",
+        AutoscaleStrategy::Standard,
+        14.0,
+    );
+    grey_u8(
+        b"Standard, 0, 41, U8 grey: ",
+        AutoscaleStrategy::Standard,
+        41.0,
+    );
     clahe_grey();
 }
 

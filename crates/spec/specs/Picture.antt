@@ -13,8 +13,8 @@ use Rattle.spec.specs.Pixels.{Pixel, pixels}
 use Rattle.spec.specs.Refusals.{sidesRefused, lengthsRefused, unlike, workRefused, marksRefused, decibelsRefused, tilesRefused}
 use Rattle.spec.specs.Strategies.{isTamed}
 use Rattle.spec.specs.Statistics.{statisticsOf}
-use Rattle.spec.specs.Window.{pictureWindow, gammaRefused}
-use Rattle.spec.specs.Value.{full8}
+use Rattle.spec.specs.Window.{pictureWindow}
+use Rattle.spec.specs.Gamma.{U8}
 use Rattle.spec.specs.Stretch.{stretch}
 use Rattle.spec.specs.Grey.{values}
 use Rattle.spec.specs.Colour.{coloursOf}
@@ -28,7 +28,7 @@ pub record Picture : Type 0 where
 -- the U8 greys of one band of a picture; Tamed: "no stretch"
 unfoldable pub pictureGreys : AutoscaleStrategy → ℕ → ℕ → List Pixel → WindowAnswer → List ℕ
 pictureGreys strategy rows cols px w =
-    let raw = values full8 strategy rows cols px w in
+    let raw = values U8 strategy rows cols px w in
     cond (isTamed strategy) raw (stretch raw)
 
 -- the colours follow the two grey outputs
@@ -37,15 +37,14 @@ composed strategy g1 g2 = record { grey1 = g1; grey2 = g2; colours = coloursOf s
 
 -- each test over both bands: "The smallest number that applies to any band"
 unfoldable pub pictureTests :
-    AutoscaleStrategy → ℕ → ℕ → List ℕ → List Float → List ℕ → List Float → Lent → List Pixel → List Pixel → WindowAnswer → WindowAnswer → List Bool
-pictureTests strategy rows cols marks1 db1 marks2 db2 lent px1 px2 w1 w2 =
+    AutoscaleStrategy → ℕ → ℕ → List ℕ → List Float → List ℕ → List Float → Lent → List Pixel → List Pixel → List Bool
+pictureTests strategy rows cols marks1 db1 marks2 db2 lent px1 px2 =
     sidesRefused rows cols
     ∷ (lengthsRefused rows cols marks1 db1 || lengthsRefused rows cols marks2 db2 || unlike (lent .grey1) (rows * cols)
     || unlike (lent .grey2) (rows * cols) || unlike (lent .rgb) (3 * (rows * cols)) || workRefused strategy (lent .work))
     ∷ (marksRefused marks1 || marksRefused marks2)
     ∷ (decibelsRefused px1 || decibelsRefused px2)
     ∷ (tilesRefused strategy rows cols px1 || tilesRefused strategy rows cols px2)
-    ∷ (gammaRefused w1 || gammaRefused w2)
     ∷ []
 
 -- "band 1 counts as co-pol under Tamed"
@@ -56,4 +55,4 @@ syntheticRgbPicture strategy mode rows cols marks1 db1 marks2 db2 lent =
     let w1 = pictureWindow strategy true (statisticsOf px1) in
     let w2 = pictureWindow strategy false (statisticsOf px2) in
     let painted = composed strategy (pictureGreys strategy rows cols px1 w1) (pictureGreys strategy rows cols px2 w2) in
-    answer (firstOf 1 (pictureTests strategy rows cols marks1 db1 marks2 db2 lent px1 px2 w1 w2)) painted
+    answer (firstOf 1 (pictureTests strategy rows cols marks1 db1 marks2 db2 lent px1 px2)) painted

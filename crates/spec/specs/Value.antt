@@ -19,7 +19,7 @@ normalized low high range v = div binary64 (sub binary64 (clampFloat low high v)
 unfoldable pub valueOf : Float → Float → Float → Float → Float → ℕ
 valueOf full low high range v = toUnsigned 64 (clampFloat zero64 full (mul binary64 (normalized low high range v) full))
 
--- "Invalid: 0"
-unfoldable pub paint : Float → Float → Float → Float → Pixel → ℕ
-paint full low high range off = 0
-paint full low high range (on v) = valueOf full low high range v
+-- "Invalid: 0"; a valid pixel by the value of its dB
+unfoldable pub paint : (Float → ℕ) → Pixel → ℕ
+paint value off = 0
+paint value (on v) = value v

@@ -122,7 +122,7 @@ pictureClip strategy copol s = cond (isTamed strategy) (tamedClip copol s) (choo
 unfoldable pub pictureWindow : AutoscaleStrategy → Bool → HistogramStats → WindowAnswer
 pictureWindow strategy copol s = openWindow (s .«valid_count») (pictureClip strategy copol s)
 
--- 6: "whose chosen gamma is not 1.0"
+-- 6: "whose chosen gamma is not 1.0"; F-1: "for U16 only"
 unfoldable pub gammaRefused : WindowAnswer → Bool
 gammaRefused (Window low high range gamma) = ne gamma one64
 gammaRefused Blank = false

@@ -60,14 +60,14 @@ pub record Starred : Type 0 where
   pub one-all : percentiles (stats (deep ∷ [])) ≡ replicate 11 deep
   pub one-u8 : u8 Default (deep ∷ []) ≡ done (0 ∷ [])
   pub one-u16 : u16 Default (deep ∷ []) ≡ done (0 ∷ [])
-  -- "Standard: 0, 14 refused 6; 0, 15 done; 0, 40 done; 0, 41 refused 6"
-  pub fourteen-u8 : u8 Standard (ofCount 0 ∷ ofCount 14 ∷ []) ≡ refused 6
+  -- "Standard: 0, 14 refused 6; 0, 15 done; 0, 40 done; 0, 41 refused 6"; F-1: at U16 alone, "done at U8"
+  pub fourteen-u8 : u8 Standard (ofCount 0 ∷ ofCount 14 ∷ []) ≡ done (0 ∷ 255 ∷ [])
   pub fourteen-u16 : u16 Standard (ofCount 0 ∷ ofCount 14 ∷ []) ≡ refused 6
   pub fifteen-u8 : number (u8 Standard (ofCount 0 ∷ ofCount 15 ∷ [])) ≡ 0
   pub fifteen-u16 : number (u16 Standard (ofCount 0 ∷ ofCount 15 ∷ [])) ≡ 0
   pub forty-u8 : number (u8 Standard (ofCount 0 ∷ ofCount 40 ∷ [])) ≡ 0
   pub forty-u16 : number (u16 Standard (ofCount 0 ∷ ofCount 40 ∷ [])) ≡ 0
-  pub forty-one-u8 : u8 Standard (ofCount 0 ∷ ofCount 41 ∷ []) ≡ refused 6
+  pub forty-one-u8 : u8 Standard (ofCount 0 ∷ ofCount 41 ∷ []) ≡ done (0 ∷ 255 ∷ [])
   pub forty-one-u16 : u16 Standard (ofCount 0 ∷ ofCount 41 ∷ []) ≡ refused 6
   -- "Stretch 0, 1, 2: 0, 128, 255. 7, 7, 7: zeros"
   pub stretch-012 : scaleU16ToU8 (0 ∷ 1 ∷ 2 ∷ []) 3 ≡ done (0 ∷ 128 ∷ 255 ∷ [])

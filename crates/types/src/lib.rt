@@ -72,7 +72,7 @@ pub enum WindowAnswer {
     Refused(u8),
 }
 
-// A window's floats, as painting takes them; gamma is 1.0 wherever painting starts.
+// A window's floats, as painting takes them.
 pub struct WindowFloats {
     pub low: f64,
     pub high: f64,

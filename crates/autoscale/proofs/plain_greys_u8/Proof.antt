@@ -6,7 +6,7 @@ use denote.Ref.{now}
 use lib.ListN.{length}
 use Rattle.spec.specs.Pixels.{pixels}
 use Rattle.spec.specs.Stretch.{stretch}
-use Rattle.spec.specs.Value.{full8}
+use Rattle.spec.specs.Gamma.{U8}
 use Rattle.raster.proofs.Bands.{pixels-length}
 use Rattle.stretch.proofs.Calls.{stretch-by}
 use Rattle.autoscale.proofs.Painted.{plain-window, left-stretched}
@@ -19,7 +19,7 @@ returns c =
     let at-match = at-clear .before .before in
     let a = at-match .before .before .before .before .args in
     let e = pixels-length (now (a .valid-mask)) (now (a .db)) (omega arith) in
-    at-clear .clear-u8 .ensures ∙ left-stretched full8 (a .window) (pixels (now (a .valid-mask)) (now (a .db))) (length (now (a .out))) (at-match .match .keys2) (omega arith)
+    at-clear .clear-u8 .ensures ∙ left-stretched U8 (a .window) (pixels (now (a .valid-mask)) (now (a .db))) (length (now (a .out))) (at-match .match .keys2) (omega arith)
 
 returns-2 : tie.Need-returns-2
 returns-2 c =
@@ -28,7 +28,7 @@ returns-2 c =
     let at-window = at-paint .before .before .before in
     let a = at-window .before .before .before .before .before .args in
     let g = at-window .window .given in
-    let plain = plain-window (a .window) (g .0 .0) (g .0 .1 .0) (g .0 .1 .1 .0) (g .0 .1 .1 .1 .0) (g .1) full8 (pixels (now (a .valid-mask)) (now (a .db))) in
+    let plain = plain-window (a .window) (g .0 .0) (g .0 .1 .0) (g .0 .1 .1 .0) (g .0 .1 .1 .1 .0) (g .1) U8 (pixels (now (a .valid-mask)) (now (a .db))) in
     stretch-by _ _ _ _ (at-paint .paint-u8 .ensures .1 .0) (at-paint .paint-u8 .ensures .1 .1) (at-stretch .stretch-bytes .ensures) ∙ ap stretch (at-paint .paint-u8 .ensures .0 ∙ sym plain)
 
 pub plain-greys-u8-spec : {M : Type 1} → statement M

@@ -7,9 +7,9 @@ use Rattle.types.specs.declared.WindowAnswer.{WindowAnswer}
 use Rattle.spec.specs.Answer.{replyNumber}
 use Rattle.spec.specs.Grey.{values, autoscaleDbImageToU16}
 use Rattle.spec.specs.Pixels.{pixels}
-use Rattle.spec.specs.Value.{full16}
+use Rattle.spec.specs.Gamma.{U16}
 use Rattle.autoscale.specs.Painted.{opens}
-use Rattle.pipeline.proofs.Greys.{grey-refused, grey-asks, grey-opens, grey-done}
+use Rattle.pipeline.proofs.Greys.{grey16-refused, grey16-asks, grey16-opens, grey16-done}
 use Rattle.pipeline.proofs.autoscale_db_image_to_u16.Statement.{statement}
 use Rattle.pipeline.proofs.autoscale_db_image_to_u16.Tie as tie
 
@@ -19,8 +19,8 @@ returns c =
     let at-k = c .before in
     let at-window = at-k .before .before in
     let a = at-window .before .before .before .before .before .args in
-    let g : WindowAnswer → List ℕ = λ v. values full16 (a .strategy) (a .rows) (a .cols) (pixels (now (a .valid-mask)) (now (a .db))) v in
-    grey-refused (a .strategy) (a .rows) (a .cols) (now (a .valid-mask)) (now (a .db)) (now (a .out)) (now (a .work)) g _ (at-window .grey-window .ensures) _ (at-k .window .given .1)
+    let g : WindowAnswer → List ℕ = λ v. values U16 (a .strategy) (a .rows) (a .cols) (pixels (now (a .valid-mask)) (now (a .db))) v in
+    grey16-refused (a .strategy) (a .rows) (a .cols) (now (a .valid-mask)) (now (a .db)) (now (a .out)) (now (a .work)) g _ (at-window .grey-window-u16 .ensures) _ (at-k .window .given .1)
 
 -- a blank window opens too; that it is this band's window is asked where the call returns
 values-u16-requires : tie.Need-values-u16-requires
@@ -29,8 +29,8 @@ values-u16-requires c κs =
     let at-match = c .before .before in
     let at-window = at-match .before in
     let a = at-window .before .before .before .before .before .args in (
-      grey-asks (a .strategy) (a .rows) (a .cols) (now (a .valid-mask)) (now (a .db)) (now (a .out)) (now (a .work)) (λ v. []) _ (at-window .grey-window .ensures) (at-match .match .keys2),
-      search (grey-opens (a .strategy) (a .rows) (a .cols) (now (a .valid-mask)) (now (a .db)) (now (a .out)) (now (a .work)) (λ v. []) _ (at-window .grey-window .ensures) (at-match .match .keys2)),
+      grey16-asks (a .strategy) (a .rows) (a .cols) (now (a .valid-mask)) (now (a .db)) (now (a .out)) (now (a .work)) (λ v. []) _ (at-window .grey-window-u16 .ensures) (at-match .match .keys2),
+      search (grey16-opens (a .strategy) (a .rows) (a .cols) (now (a .valid-mask)) (now (a .db)) (now (a .out)) (now (a .work)) (λ v. []) _ (at-window .grey-window-u16 .ensures) (at-match .match .keys2)),
     )
 
 returns-2 : tie.Need-returns-2
@@ -40,8 +40,8 @@ returns-2 c =
     let at-match = at-greys .before .before .before in
     let at-window = at-match .before in
     let a = at-window .before .before .before .before .before .args in
-    let g : WindowAnswer → List ℕ = λ v. values full16 (a .strategy) (a .rows) (a .cols) (pixels (now (a .valid-mask)) (now (a .db))) v in
-    grey-done (a .strategy) (a .rows) (a .cols) (now (a .valid-mask)) (now (a .db)) (now (a .out)) (now (a .work)) g _ (at-window .grey-window .ensures) (at-match .match .keys2) _ _ (at-greys .values-u16 .ensures .0) (at-greys .values-u16 .ensures .1)
+    let g : WindowAnswer → List ℕ = λ v. values U16 (a .strategy) (a .rows) (a .cols) (pixels (now (a .valid-mask)) (now (a .db))) v in
+    grey16-done (a .strategy) (a .rows) (a .cols) (now (a .valid-mask)) (now (a .db)) (now (a .out)) (now (a .work)) g _ (at-window .grey-window-u16 .ensures) (at-match .match .keys2) _ _ (at-greys .values-u16 .ensures .0) (at-greys .values-u16 .ensures .1)
 
 pub autoscale-db-image-to-u16-spec : {M : Type 1} → statement M
 autoscale-db-image-to-u16-spec =

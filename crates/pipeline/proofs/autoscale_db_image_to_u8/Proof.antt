@@ -8,7 +8,7 @@ use Rattle.spec.specs.Answer.{replyNumber}
 use Rattle.spec.specs.Grey.{values, autoscaleDbImageToU8}
 use Rattle.spec.specs.Pixels.{pixels}
 use Rattle.spec.specs.Stretch.{stretch}
-use Rattle.spec.specs.Value.{full8}
+use Rattle.spec.specs.Gamma.{U8}
 use Rattle.autoscale.specs.Painted.{opens}
 use Rattle.pipeline.proofs.Greys.{grey-refused, grey-asks, grey-opens, grey-done}
 use Rattle.pipeline.proofs.autoscale_db_image_to_u8.Statement.{statement}
@@ -20,7 +20,7 @@ returns c =
     let at-k = c .before in
     let at-window = at-k .before .before in
     let a = at-window .before .before .before .before .before .args in
-    let g : WindowAnswer → List ℕ = λ v. stretch (values full8 (a .strategy) (a .rows) (a .cols) (pixels (now (a .valid-mask)) (now (a .db))) v) in
+    let g : WindowAnswer → List ℕ = λ v. stretch (values U8 (a .strategy) (a .rows) (a .cols) (pixels (now (a .valid-mask)) (now (a .db))) v) in
     grey-refused (a .strategy) (a .rows) (a .cols) (now (a .valid-mask)) (now (a .db)) (now (a .out)) (now (a .work)) g _ (at-window .grey-window .ensures) _ (at-k .window .given .1)
 
 -- a blank window opens too; that it is this band's window is asked where the call returns
@@ -41,7 +41,7 @@ returns-2 c =
     let at-match = at-greys .before .before .before in
     let at-window = at-match .before in
     let a = at-window .before .before .before .before .before .args in
-    let g : WindowAnswer → List ℕ = λ v. stretch (values full8 (a .strategy) (a .rows) (a .cols) (pixels (now (a .valid-mask)) (now (a .db))) v) in
+    let g : WindowAnswer → List ℕ = λ v. stretch (values U8 (a .strategy) (a .rows) (a .cols) (pixels (now (a .valid-mask)) (now (a .db))) v) in
     grey-done (a .strategy) (a .rows) (a .cols) (now (a .valid-mask)) (now (a .db)) (now (a .out)) (now (a .work)) g _ (at-window .grey-window .ensures) (at-match .match .keys2) _ _ (at-greys .greys-u8 .ensures .0) (at-greys .greys-u8 .ensures .1)
 
 pub autoscale-db-image-to-u8-spec : {M : Type 1} → statement M

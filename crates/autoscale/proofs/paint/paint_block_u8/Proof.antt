@@ -5,7 +5,7 @@ use native.Mathlib.Omega.{arith}
 use borrow.Author.Needs.{needs}
 use denote.Ref.{now}
 use lib.ListN.{length}
-use Rattle.spec.specs.Value.{full8}
+use Rattle.spec.specs.Value.{full8, valueOf}
 use Rattle.autoscale.proofs.Painting.{lowest-under, paint-none}
 use Rattle.autoscale.proofs.paint.paint_block_u8.Statement.{statement}
 use Rattle.autoscale.proofs.paint.paint_block_u8.Tie as tie
@@ -23,7 +23,7 @@ returns-2 c =
     let at-first = at-none .before in
     let a = at-first .before .before .before .before .before .before .args in
     at-clear .clear-u8 .ensures
-    ∙ paint-none full8 (a .window .low) (a .window .high) (a .window .range) (now (a .valid-mask)) (now (a .db)) (length (now (a .out))) (omega arith) (omega arith)
+    ∙ paint-none (valueOf full8 (a .window .low) (a .window .high) (a .window .range)) (now (a .valid-mask)) (now (a .db)) (length (now (a .out))) (omega arith) (omega arith)
     (λ k h. at-first .first-valid .ensures .before k (omega (arith, at-none .if2 .taken, h)))
 
 paint-some-u8-requires : tie.Need-paint-some-u8-requires

@@ -7,7 +7,7 @@ use borrow.Author.Needs.{needs}
 use denote.Ref.{now}
 use lib.ListN.{length, take}
 use Rattle.spec.specs.Pixels.{off, pixels}
-use Rattle.spec.specs.Value.{full8, paint}
+use Rattle.spec.specs.Value.{full8, paint, valueOf}
 use Rattle.lists.proofs.Rows.{finish}
 use Rattle.raster.proofs.Bands.{pixels-length}
 use Rattle.autoscale.proofs.Painting.{part-length, block-painted}
@@ -16,7 +16,7 @@ use Rattle.autoscale.proofs.paint.paint_blocks_u8.Tie as tie
 
 abbrev Inv-loop : tie.InvT-loop
 Inv-loop db marks window out₀ at₀ out at =
-    (at ≤ length out₀) × (length out ≡ length out₀) × (take at out ≡ map (paint full8 (window .low) (window .high) (window .range)) (take at (pixels marks db)))
+    (at ≤ length out₀) × (length out ≡ length out₀) × (take at out ≡ map (paint (valueOf full8 (window .low) (window .high) (window .range))) (take at (pixels marks db)))
 
 abbrev μ-loop : tie.MeasureT-loop
 μ-loop db marks window out₀ at₀ out at = length out₀ - at
@@ -47,7 +47,7 @@ loop-again c =
     let a = l .before .before .before .before .args in (
       omega (arith, b .block-end .ensures),
       omega (arith, c .before .out .given, l .loop .inv .1),
-      block-painted (paint full8 (a .window .low) (a .window .high) (a .window .range)) (now (a .valid-mask)) (now (a .db)) (l .loop .at) (b .block-end .result) (l .loop .out) _ _
+      block-painted (paint (valueOf full8 (a .window .low) (a .window .high) (a .window .range))) (now (a .valid-mask)) (now (a .db)) (l .loop .at) (b .block-end .result) (l .loop .out) _ _
           (omega (arith, b .block-end .ensures)) (omega (arith, b .block-end .ensures)) (omega arith) (omega arith) (p .paint-block-u8 .ensures) (l .loop .inv .2),
     )
 
@@ -56,7 +56,7 @@ returns c =
     let l = c .before in
     let a = l .before .before .before .before .args in
     let e = pixels-length (now (a .valid-mask)) (now (a .db)) (omega arith) in
-    finish (paint full8 (a .window .low) (a .window .high) (a .window .range)) off (pixels (now (a .valid-mask)) (now (a .db))) (l .loop .out) (l .loop .at) (omega arith, omega arith, l .loop .inv .2) (c .loop-test .left)
+    finish (paint (valueOf full8 (a .window .low) (a .window .high) (a .window .range))) off (pixels (now (a .valid-mask)) (now (a .db))) (l .loop .out) (l .loop .at) (omega arith, omega arith, l .loop .inv .2) (c .loop-test .left)
 
 pub paint-blocks-u8-spec : {M : Type 1} → statement M
 paint-blocks-u8-spec =

@@ -7,7 +7,7 @@ use Rattle.types.specs.declared.AutoscaleStrategy.{AutoscaleStrategy}
 use Rattle.spec.specs.Grey.{values}
 use Rattle.spec.specs.Pixels.{pixels}
 use Rattle.spec.specs.Stretch.{stretch}
-use Rattle.spec.specs.Value.{full8}
+use Rattle.spec.specs.Gamma.{U8}
 use Rattle.autoscale.specs.Painted.{opens}
 use Rattle.autoscale.proofs.Painted.{values-outside}
 use Rattle.pipeline.proofs.Accepted.{ready-lengths}
@@ -30,7 +30,7 @@ returns c =
     let px = pixels (now (a .valid-mask)) (now (a .db)) in
     let b = sym (at-then .before .is-clahe .ensures) ∙ at-then .if1 .taken in
     let l = at-tiled .tiled-greys-u8 in (
-      l .ensures ∙ ap (λ (s : AutoscaleStrategy). stretch (values full8 s (a .sides .rows) (a .sides .cols) px (a .window))) (clahe-only (a .strategy) b),
+      l .ensures ∙ ap (λ (s : AutoscaleStrategy). stretch (values U8 s (a .sides .rows) (a .sides .cols) px (a .window))) (clahe-only (a .strategy) b),
       record { size = l .kept .1 .1 .1 .1 .1 .0; same = λ e. absurd (true≢false (sym b ∙ e)) },
     )
 
@@ -43,7 +43,7 @@ returns-2 c =
     let at-plain = c .before .before in
     let at-else = at-plain .before .before in
     let a = at-else .before .before .before .before .before .before .args in
-    (at-plain .plain-greys-u8 .ensures ∙ sym (ap stretch (values-outside full8 (a .strategy) (a .sides .rows) (a .sides .cols) (pixels (now (a .valid-mask)) (now (a .db))) (a .window) (sym (at-else .before .is-clahe .ensures) ∙ at-else .if1 .left))), record { size = refl; same = λ _. refl })
+    (at-plain .plain-greys-u8 .ensures ∙ sym (ap stretch (values-outside U8 (a .strategy) (a .sides .rows) (a .sides .cols) (pixels (now (a .valid-mask)) (now (a .db))) (a .window) (sym (at-else .before .is-clahe .ensures) ∙ at-else .if1 .left))), record { size = refl; same = λ _. refl })
 
 pub greys-u8-spec : {M : Type 1} → statement M
 greys-u8-spec =

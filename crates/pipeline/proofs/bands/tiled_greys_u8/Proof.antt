@@ -7,7 +7,7 @@ use Rattle.types.specs.declared.AutoscaleStrategy.the-variants.{Clahe}
 use Rattle.spec.specs.Pixels.{pixels}
 use Rattle.spec.specs.Strategies.{isClahe}
 use Rattle.spec.specs.Stretch.{stretch}
-use Rattle.spec.specs.Value.{full8}
+use Rattle.spec.specs.Gamma.{U8}
 use Rattle.autoscale.proofs.Painted.{left-stretched}
 use Rattle.pipeline.proofs.Accepted.{ready-pixels}
 use Rattle.pipeline.proofs.Greys.{values-none, values-tiles}
@@ -21,8 +21,8 @@ returns c =
     let start = at-match .before .before .before .before .before in
     let a = start .args in
     let px = pixels (now (a .valid-mask)) (now (a .db)) in
-    at-clear .clear-u8 .ensures ∙ left-stretched full8 (a .window) px (length (now (a .out))) (at-match .match .keys2) (ready-pixels (start .pre .0))
-    ∙ ap stretch (values-none full8 Clahe (a .sides .rows) (a .sides .cols) px (a .window) (at-match .match .keys2))
+    at-clear .clear-u8 .ensures ∙ left-stretched U8 (a .window) px (length (now (a .out))) (at-match .match .keys2) (ready-pixels (start .pre .0))
+    ∙ ap stretch (values-none U8 Clahe (a .sides .rows) (a .sides .cols) px (a .window) (at-match .match .keys2))
 
 clahe-values-u8-requires : tie.Need-clahe-values-u8-requires
 unfolding isClahe
@@ -37,7 +37,7 @@ returns-2 c =
     let at-window = at-tiles .before .before .before .before in
     let a = at-window .before .before .before .before .before .before .args in
     let g = at-window .window .given in
-    at-scale .scale-bytes .ensures ∙ ap stretch (at-tiles .clahe-values-u8 .ensures ∙ values-tiles full8 (a .sides .rows) (a .sides .cols) (pixels (now (a .valid-mask)) (now (a .db))) (a .window) (g .0 .0) (g .0 .1 .0) (g .0 .1 .1 .0) (g .0 .1 .1 .1 .0) (g .1))
+    at-scale .scale-bytes .ensures ∙ ap stretch (at-tiles .clahe-values-u8 .ensures ∙ values-tiles U8 (a .sides .rows) (a .sides .cols) (pixels (now (a .valid-mask)) (now (a .db))) (a .window) (g .0 .0) (g .0 .1 .0) (g .0 .1 .1 .0) (g .0 .1 .1 .1 .0) (g .1))
 
 pub tiled-greys-u8-spec : {M : Type 1} → statement M
 tiled-greys-u8-spec =

@@ -6,7 +6,7 @@ use denote.Ref.{now}
 use Rattle.types.specs.declared.AutoscaleStrategy.{AutoscaleStrategy}
 use Rattle.spec.specs.Grey.{values}
 use Rattle.spec.specs.Pixels.{pixels}
-use Rattle.spec.specs.Value.{full16}
+use Rattle.spec.specs.Gamma.{U16}
 use Rattle.autoscale.specs.Painted.{opens}
 use Rattle.autoscale.proofs.Painted.{values-outside}
 use Rattle.pipeline.proofs.Accepted.{ready-lengths}
@@ -29,7 +29,7 @@ returns c =
     let px = pixels (now (a .valid-mask)) (now (a .db)) in
     let b = sym (at-then .before .is-clahe .ensures) ∙ at-then .if1 .taken in
     let l = at-tiled .tiled-values-u16 in (
-      l .ensures ∙ ap (λ (s : AutoscaleStrategy). values full16 s (a .sides .rows) (a .sides .cols) px (a .window)) (clahe-only (a .strategy) b),
+      l .ensures ∙ ap (λ (s : AutoscaleStrategy). values U16 s (a .sides .rows) (a .sides .cols) px (a .window)) (clahe-only (a .strategy) b),
       record { size = l .kept .1 .1 .1 .1 .1 .0; same = λ e. absurd (true≢false (sym b ∙ e)) },
     )
 
@@ -42,7 +42,7 @@ returns-2 c =
     let at-plain = c .before .before in
     let at-else = at-plain .before .before in
     let a = at-else .before .before .before .before .before .before .args in
-    (at-plain .plain-values-u16 .ensures ∙ sym (values-outside full16 (a .strategy) (a .sides .rows) (a .sides .cols) (pixels (now (a .valid-mask)) (now (a .db))) (a .window) (sym (at-else .before .is-clahe .ensures) ∙ at-else .if1 .left)), record { size = refl; same = λ _. refl })
+    (at-plain .plain-values-u16 .ensures ∙ sym (values-outside U16 (a .strategy) (a .sides .rows) (a .sides .cols) (pixels (now (a .valid-mask)) (now (a .db))) (a .window) (sym (at-else .before .is-clahe .ensures) ∙ at-else .if1 .left)), record { size = refl; same = λ _. refl })
 
 pub values-u16-spec : {M : Type 1} → statement M
 values-u16-spec =

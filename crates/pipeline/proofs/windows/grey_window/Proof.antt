@@ -2,7 +2,7 @@
 use mathlib.Core.Path.{sym, _∙_}
 use borrow.Author.Needs.{needs}
 use Rattle.pipeline.proofs.Accepted.{grey-ready, passable}
-use Rattle.pipeline.proofs.GreyWindow.{grey-shape, grey-bad, grey-tiles, grey-gamma, grey-unrefused}
+use Rattle.pipeline.proofs.GreyWindow.{grey-shape, grey-bad, grey-tiles, grey-unrefused}
 use Rattle.pipeline.proofs.windows.grey_window.Statement.{statement}
 use Rattle.pipeline.proofs.windows.grey_window.Tie as tie
 
@@ -34,21 +34,11 @@ returns-3 c =
 
 returns-4 : tie.Need-returns-4
 returns-4 c =
-    let t = c .before .before in
-    let k = t .before .before in
-    let w = k .before in
-    let b = w .before in
-    grey-gamma _ _ _ _ _ _ _ (sym (b .before .grey-refusal .ensures) ∙ b .if1 .left) _ (w .band-window .ensures) (k .match .keys2)
-    (sym (t .before .window-tiles-refused .ensures) ∙ t .if2 .left) (sym (c .before .gamma-refused .ensures) ∙ c .if3 .taken)
-
-returns-5 : tie.Need-returns-5
-returns-5 c =
-    let t = c .before .before in
-    let k = t .before .before in
+    let k = c .before .before in
     let w = k .before in
     let b = w .before in
     grey-unrefused _ _ _ _ _ _ _ (sym (b .before .grey-refusal .ensures) ∙ b .if1 .left) _ (w .band-window .ensures) (k .match .keys2)
-    (sym (t .before .window-tiles-refused .ensures) ∙ t .if2 .left) (sym (c .before .gamma-refused .ensures) ∙ c .if3 .left)
+    (sym (c .before .window-tiles-refused .ensures) ∙ c .if2 .left)
 
 pub grey-window-spec : {M : Type 1} → statement M
 grey-window-spec =
@@ -61,6 +51,4 @@ grey-window-spec =
     returns-2
     window-tiles-refused-requires
     returns-3
-    (λ c κs. search needs)
-    returns-4
-    returns-5)
+    returns-4)

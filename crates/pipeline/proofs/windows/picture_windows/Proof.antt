@@ -2,7 +2,7 @@
 use mathlib.Core.Path.{sym, _∙_}
 use borrow.Author.Needs.{needs}
 use Rattle.pipeline.proofs.Accepted.{picture-sized, passable}
-use Rattle.pipeline.proofs.PictureWindow.{picture-shape, picture-bad-first, picture-bad-second, picture-tiles, picture-gamma, picture-unrefused}
+use Rattle.pipeline.proofs.PictureWindow.{picture-shape, picture-bad-first, picture-bad-second, picture-tiles, picture-unrefused}
 use Rattle.pipeline.proofs.windows.picture_windows.Statement.{statement}
 use Rattle.pipeline.proofs.windows.picture_windows.Tie as tie
 
@@ -50,25 +50,13 @@ returns-4 c =
 
 returns-5 : tie.Need-returns-5
 returns-5 c =
-    let t = c .before .before in
-    let l = t .before .before in
-    let v = l .before in
-    let k = v .before in
-    let w = k .before in
-    let b = w .before in
-    picture-gamma _ _ _ _ _ _ _ _ (sym (b .before .picture-refusal .ensures) ∙ b .if1 .left) _ (w .band-picture-window .ensures) (k .match .keys2) _ (v .band-picture-window2 .ensures) (l .match2 .keys2)
-    (sym (t .before .either-tiles-refused .ensures) ∙ t .if2 .left) (sym (c .before .either-gamma-refused .ensures) ∙ c .if3 .taken)
-
-returns-6 : tie.Need-returns-6
-returns-6 c =
-    let t = c .before .before in
-    let l = t .before .before in
+    let l = c .before .before in
     let v = l .before in
     let k = v .before in
     let w = k .before in
     let b = w .before in
     picture-unrefused _ _ _ _ _ _ _ _ (sym (b .before .picture-refusal .ensures) ∙ b .if1 .left) _ (w .band-picture-window .ensures) (k .match .keys2) _ (v .band-picture-window2 .ensures) (l .match2 .keys2)
-    (sym (t .before .either-tiles-refused .ensures) ∙ t .if2 .left) (sym (c .before .either-gamma-refused .ensures) ∙ c .if3 .left)
+    (sym (c .before .either-tiles-refused .ensures) ∙ c .if2 .left)
 
 pub picture-windows-spec : {M : Type 1} → statement M
 picture-windows-spec =
@@ -84,6 +72,4 @@ picture-windows-spec =
     returns-3
     either-tiles-refused-requires
     returns-4
-    (λ c κs. search needs)
-    returns-5
-    returns-6)
+    returns-5)
