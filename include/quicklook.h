@@ -13,7 +13,7 @@
  *   3    a mark is neither 0 nor 1
  *   4    a valid decibel is NaN, infinite, below -1000 or above 1000
  *   5    Clahe with a valid pixel and a side s with 7 * ceil(s / 8) > s
- *   6    the chosen gamma is not 1.0
+ *   6    16 bits, and the chosen gamma is not 1.0
  *   255  a strategy or a mode that names nothing
  *
  * 255 comes before all others; of 1 to 6 the smallest that applies is answered. n is rows * cols, row by row. Marks are bytes: 1 valid, 0
@@ -77,13 +77,13 @@ uint8_t quicklook_histogram(size_t rows, size_t cols, const double *db, size_t d
 uint8_t quicklook_window(uint8_t strategy, size_t rows, size_t cols, const double *db, size_t db_len, const uint8_t *valid_mask,
                          size_t valid_mask_len, uint8_t *blank, double floats[4]);
 
-/* Grey of one band, 8 or 16 bits. db, valid_mask and out have n elements. Answers 0 to 6, 255. */
+/* Grey of one band, 8 or 16 bits. db, valid_mask and out have n elements. Answers 0 to 5, 255, at 16 bits also 6. */
 uint8_t quicklook_grey_u8(uint8_t strategy, size_t rows, size_t cols, const double *db, size_t db_len, const uint8_t *valid_mask,
                           size_t valid_mask_len, uint8_t *out, size_t out_len, double *work, size_t work_len);
 uint8_t quicklook_grey_u16(uint8_t strategy, size_t rows, size_t cols, const double *db, size_t db_len, const uint8_t *valid_mask,
                            size_t valid_mask_len, uint16_t *out, size_t out_len, double *work, size_t work_len);
 
-/* The picture of two bands: two greys of n bytes and colours of 3 n bytes, red, green, blue for each pixel. Band 1 counts as co-pol. Answers 0 to 6, 255. */
+/* The picture of two bands: two greys of n bytes and colours of 3 n bytes, red, green, blue for each pixel. Band 1 counts as co-pol. Answers 0 to 5, 255. */
 uint8_t quicklook_picture(uint8_t strategy, uint8_t mode, size_t rows, size_t cols, const double *db1, size_t db1_len,
                           const uint8_t *valid_mask1, size_t valid_mask1_len, const double *db2, size_t db2_len, const uint8_t *valid_mask2,
                           size_t valid_mask2_len, uint8_t *grey1, size_t grey1_len, uint8_t *grey2, size_t grey2_len, uint8_t *rgb,

@@ -131,7 +131,14 @@ static void grey(void) {
     check(quicklook_grey_u16(QUICKLOOK_DEFAULT, 1, 2, db, 2, mask, 2, out16, 2, work, 0) == 0 && out16[0] == 0 && out16[1] == 32759, "grey 16 of 0, 0.5");
     memset(out8, 9, 2);
     db[1] = 14.0;
-    check(quicklook_grey_u8(QUICKLOOK_STANDARD, 1, 2, db, 2, mask, 2, out8, 2, work, 0) == 6 && all(out8, 2, 9), "Standard of 0, 14");
+    double three[3] = {0.0, 7.0, 14.0};
+    uint8_t ones[3] = {1, 1, 1};
+    uint8_t *narrow = lent(3, 1, 9);
+    check(quicklook_grey_u8(QUICKLOOK_STANDARD, 1, 3, three, 3, ones, 3, narrow, 3, work, 0) == 0 && narrow[0] == 0 && narrow[1] == 118 && narrow[2] == 255,
+          "Standard of 0, 7, 14: painted with gamma 1.1 at 8 bits");
+    free(narrow);
+    memset(out16, 9, 4);
+    check(quicklook_grey_u16(QUICKLOOK_STANDARD, 1, 2, db, 2, mask, 2, out16, 2, work, 0) == 6 && all(out16, 4, 9), "Standard of 0, 14: refused at 16 bits");
     db[1] = 15.0;
     check(quicklook_grey_u8(QUICKLOOK_STANDARD, 1, 2, db, 2, mask, 2, out8, 2, work, 0) == 0, "Standard of 0, 15");
     memset(out8, 9, 2);
@@ -163,8 +170,8 @@ static void picture(void) {
           "a mode that names nothing, before a side above 4,096");
     check(quicklook_picture(QUICKLOOK_DEFAULT, 0, 1, 2, db, 2, mask, 2, db, 2, mask, 2, grey1, 2, grey2, 2, rgb, 5, work, 3) == 2 && all(rgb, 6, 9) && all(grey1, 2, 9),
           "colours that are too short");
-    check(quicklook_picture(QUICKLOOK_STANDARD, 0, 1, 2, db, 2, mask, 2, db, 2, mask, 2, grey1, 2, grey2, 2, rgb, 6, work, 3) == 6 && all(rgb, 6, 9) && all(grey2, 2, 9),
-          "Standard's gamma 1.1");
+    check(quicklook_picture(QUICKLOOK_STANDARD, 0, 1, 2, db, 2, mask, 2, db, 2, mask, 2, grey1, 2, grey2, 2, rgb, 6, work, 3) == 0 && grey1[0] == 0 && grey2[1] == 255,
+          "Standard's gamma 1.1 is painted");
     free(grey1), free(grey2), free(rgb), free(work);
 }
 

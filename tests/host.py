@@ -8,6 +8,7 @@ import subprocess
 import sys
 import tempfile
 import unittest
+from fractions import Fraction
 
 import numpy
 from osgeo import gdal
@@ -119,6 +120,19 @@ class Samples(Case):
         self.done("grey", db, marks, "--out", self.at("g.npy"))
         self.assertEqual(numpy.load(self.at("g.npy")).tolist(), [[0, 255]])
 
+    def test_grey_of_other_gammas(self):
+        """Little contrast under Standard (1.1), a wide scene (0.9): each byte by whole numbers; at 16 bits 6, and the message says what helps."""
+        for gamma, (p, q), db in (("1.1", (11, 10), numpy.linspace(0.0, 14.0, 57)), ("0.9", (9, 10), numpy.linspace(-30.0, 30.0, 61))):
+            name, marks = self.save("db.npy", db[None]), self.save("m.npy", numpy.ones((1, db.size), numpy.uint8))
+            low, high, range_, chosen = self.done("window", name, marks, "--strategy", "standard").split()[1::2]
+            self.assertEqual(chosen, gamma)
+            t = [Fraction((max(min(v, float(high)), float(low)) - float(low)) / float(range_)) for v in db.tolist()]
+            values = [max(k for k in range(256) if k**q <= 255**q * x**p) for x in t]
+            self.assertEqual((min(values), max(values)), (0, 255))
+            self.done("grey", name, marks, "--strategy", "standard", "--out", self.at("g.npy"))
+            self.assertEqual(numpy.load(self.at("g.npy")).tolist(), [values])
+            self.fails(6, f"chooses gamma {gamma}; at 16 bits only gamma 1.0 is painted. Take --depth 8", "grey", name, marks, "--strategy", "standard", "--depth", "16", "--out", self.at("g.npy"))
+
     def test_stretch(self):
         self.done("stretch", self.save("g.npy", numpy.array([[0, 1, 2]], numpy.uint16)), "--out", self.at("s.npy"))
         self.assertEqual(numpy.load(self.at("s.npy")).tolist(), [[0, 128, 255]])
@@ -220,7 +234,7 @@ class Refusals(Case):
         self.refused(4, numpy.array([[0.0, numpy.nan]]), ones)
         self.refused(4, numpy.array([[0.0, 1000.0000001]]), ones)
         self.refused(5, numpy.array([[0.0, 1.0]]), ones, "--strategy", "clahe")
-        self.refused(6, numpy.array([[0.0, 14.0]]), ones, "--strategy", "standard")
+        self.refused(6, numpy.array([[0.0, 14.0]]), ones, "--strategy", "standard", "--depth", "16")
 
     def test_too_many_for_a_list(self):
         name = self.at("long.npy")
@@ -330,7 +344,7 @@ class Damaged(Case):
     def test_view_refuses_without_a_page(self):
         one = self.save("db.npy", numpy.array([[0.0, 14.0]]))
         marks = self.save("m.npy", numpy.ones((1, 2), numpy.uint8))
-        self.fails(6, "refused 6: ", "view", one, marks, "--strategy", "standard", "--out", self.at("page.html"))
+        self.fails(5, "refused 5: ", "view", one, marks, "--strategy", "clahe", "--out", self.at("page.html"))
         self.assertFalse(os.path.exists(self.at("page.html")))
 
 

@@ -141,7 +141,7 @@ class Refused(Case):
         marks = self.save("m.npy", numpy.ones((1, 2), "u1"))
         steep = self.tiff("steep.tif", numpy.array([[[0, 1]], [[0, 14]]], "f4"))
         self.all_refused([(5, [r"\b[12]\b"], ("grey", name, marks, "--strategy", "clahe")),
-                          (6, [r"steep\.tif", r"band\W{0,3}2|:2", "gamma"], ("grey", steep + ":2", marks, "--strategy", "standard"))])
+                          (6, [r"steep\.tif", r"band\W{0,3}2|:2", "gamma"], ("grey", steep + ":2", marks, "--strategy", "standard", "--depth", "16"))])
 
     def test_one_band_is_wanted(self):
         array, marks = decibels(20, 30), marks_of(20, 30)

@@ -89,6 +89,16 @@ fn bench(side: usize) {
         row(&format!("grey 16 bits, {strategy:?}"), side, theirs, ours);
     }
 
+    // a scene of little contrast, to which Standard gives gamma 1.1, and the same by Default, gamma 1.0
+    let flat: Vec<f64> = scenes[0].0.iter().map(|v| v / 3.0).collect();
+    let rust_flat = RustBand { db: Array2::from_shape_vec((side, side), flat.clone()).unwrap(), mask: rust[0].mask.clone() };
+    for (strategy, gamma) in [(AutoscaleStrategy::Standard, "1.1"), (AutoscaleStrategy::Default, "1.0")] {
+        let theirs = median(runs, || drop(black_box(rust_grey(strategy, BitDepth::U8, &rust_flat))));
+        let given = Band { db: &flat, valid_mask: &scenes[0].1 };
+        let ours = median(runs, || engine::grey_u8(strategy, side, side, given, black_box(&mut grey1), &mut work).unwrap());
+        row(&format!("grey 8 bits, gamma {gamma}"), side, theirs, ours);
+    }
+
     let wide: Vec<u16> = (0..n).map(|_| rng.bits() as u16).collect();
     let theirs = median(runs, || drop(black_box(autoscale::scale_u16_to_u8(&wide))));
     let ours = median(runs, || engine::stretch(&wide, black_box(&mut grey1)).unwrap());

@@ -17,7 +17,7 @@ impl Refusal {
             3 => "a mark is neither 0 nor 1",
             4 => "a valid decibel is NaN, infinite, below -1000 or above 1000",
             5 => "a side that Clahe's tiles do not fit (7 x ceil(s/8) > s)",
-            6 => "the chosen gamma is not 1.0",
+            6 => "16 bits, and the chosen gamma is not 1.0",
             255 => "a strategy or a mode that names nothing",
             _ => "a number that the table does not have",
         }

@@ -317,11 +317,11 @@ pub enum Bits {
 /// The strategies of types.rs.
 #[derive(Clone, Copy, ValueEnum)]
 pub enum Strategy {
-    /// By the scene's spread: p02 to p98, or wide of the quartiles where they lie within 5 dB; a spread under 15 dB chooses gamma 1.1, else one over 40 dB with wider quartiles 0.9, and both are refused 6
+    /// By the scene's spread: p02 to p98, or wide of the quartiles where they lie within 5 dB; a spread under 15 dB chooses gamma 1.1, else one over 40 dB with wider quartiles 0.9; both are painted at 8 bits and refused 6 at 16
     Standard,
     /// Quartiles widened by 2.5 interquartile ranges, within p01 to p99: where ships or land would spoil the window
     Robust,
-    /// By skewness and tails, with a gamma of its own; refused 6 where it is not 1.0
+    /// By skewness and tails, with a gamma of its own: 0.8, 0.9, 1.0 or 1.1; at 16 bits refused 6 where it is not 1.0
     Adaptive,
     /// p01 to p99: the widest window
     Equalized,

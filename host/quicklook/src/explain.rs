@@ -80,7 +80,7 @@ fn gammas(scene: &Scene, strategy: AutoscaleStrategy) -> Option<Trouble> {
     Some(Trouble::Refused(
         6,
         format!(
-            "{}; only gamma 1.0 is painted. Take another strategy: default, robust, equalized, tamed and clahe always choose 1.0",
+            "{}; at 16 bits only gamma 1.0 is painted. Take --depth 8, or another strategy: default, robust, equalized, tamed and clahe always choose 1.0",
             wrong.join("; ")
         ),
     ))

@@ -163,11 +163,12 @@ struct Described<'a> {
     ground: Option<Ground>,
 }
 
-/// The ends of a band's window.
+/// The ends of a band's window, and its gamma.
 #[derive(Serialize)]
 struct Ends {
     low: f64,
     high: f64,
+    gamma: f64,
 }
 
 /// A band's first valid maximum.
@@ -216,7 +217,7 @@ fn describe<'a>(
     let statistics = bands.iter().map(|band| engine::statistics(rows, cols, band.band())).collect::<Answer<Vec<_>>>()?;
     let curves = bands.iter().map(|band| engine::histogram(rows, cols, band.band())).collect::<Answer<Vec<_>>>()?;
     let windows = (0..bands.len()).map(|k| match painted_window(scene, k, strategy, bands.len() == 2) {
-        Some(Window::Window { low, high, .. }) => Some(Ends { low, high }),
+        Some(Window::Window { low, high, gamma, .. }) => Some(Ends { low, high, gamma }),
         Some(Window::Blank) | None => None,
     });
     let about = match bands.len() {

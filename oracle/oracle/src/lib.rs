@@ -92,23 +92,16 @@ fn grey_tests(strategy: AutoscaleStrategy, sides: Sides, band: Band, out: usize,
     ])
 }
 
-/// 6 of a band's window.
-fn gamma_test(window: Option<Window>) -> Answer<()> {
-    window.map_or(Ok(()), |w| table::other_gamma(w.gamma))
-}
-
 /// `out` and `work` are lent lengths.
 pub fn grey_u8(strategy: AutoscaleStrategy, sides: Sides, band: Band, out: usize, work: usize) -> Answer<Vec<u8>> {
     grey_tests(strategy, sides, band, out, work)?;
-    let (greys, window) = rust::grey_u8(strategy, sides, band);
-    gamma_test(window)?;
-    Ok(greys)
+    Ok(rust::grey_u8(strategy, sides, band).0)
 }
 
 pub fn grey_u16(strategy: AutoscaleStrategy, sides: Sides, band: Band, out: usize, work: usize) -> Answer<Vec<u16>> {
     grey_tests(strategy, sides, band, out, work)?;
     let (greys, window) = rust::grey_u16(strategy, sides, band);
-    gamma_test(window)?;
+    window.map_or(Ok(()), |w| table::other_gamma(w.gamma))?;
     Ok(greys)
 }
 
@@ -173,10 +166,7 @@ pub fn picture(strategy: AutoscaleStrategy, mode: SyntheticRgbMode, sides: Sides
     let (grey1, grey2) = if strategy == Tamed {
         (rust::tamed_synrgb_u8(true, sides, band1), rust::tamed_synrgb_u8(false, sides, band2))
     } else {
-        let (grey1, window1) = rust::grey_u8(strategy, sides, band1);
-        let (grey2, window2) = rust::grey_u8(strategy, sides, band2);
-        gamma_test(window1).and(gamma_test(window2))?;
-        (grey1, grey2)
+        (rust::grey_u8(strategy, sides, band1).0, rust::grey_u8(strategy, sides, band2).0)
     };
     let rgb = rust::composition(mode, strategy, &grey1, &grey2);
     Ok(Picture { grey1, grey2, rgb })

@@ -67,7 +67,7 @@ pub fn bad_side(s: usize) -> bool {
     s.div_ceil(8).saturating_mul(7) > s
 }
 
-/// 6: "a grey or picture call whose chosen gamma is not 1.0"
+/// 6: "a grey or picture call whose chosen gamma is not 1.0", since F-1 of document 02 "for U16 only"
 pub fn other_gamma(gamma: f64) -> Answer<()> {
     first(&[false, false, false, false, false, gamma != 1.0])
 }

@@ -43,11 +43,11 @@ fn one_pixel() {
 
 #[test]
 fn standard() {
-    assert_eq!(u8_of(Standard, &[0.0, 14.0]), Err(6));
+    assert_eq!(u8_of(Standard, &[0.0, 14.0]), Ok(vec![0, 255]));
     assert_eq!(u16_of(Standard, &[0.0, 14.0]), Err(6));
     assert!(u8_of(Standard, &[0.0, 15.0]).is_ok());
     assert!(u8_of(Standard, &[0.0, 40.0]).is_ok());
-    assert_eq!(u8_of(Standard, &[0.0, 41.0]), Err(6));
+    assert_eq!(u8_of(Standard, &[0.0, 41.0]), Ok(vec![0, 255]));
     assert_eq!(u16_of(Standard, &[0.0, 41.0]), Err(6));
 }
 

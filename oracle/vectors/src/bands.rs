@@ -205,11 +205,11 @@ pub fn altered(rng: &mut Rng) -> Vec<Scene> {
     vec![scene, other]
 }
 
-/// A scene of 7 by 7 for every refusal to be put into: Standard paints it.
+/// A scene of 7 by 7 for every refusal to be put into: Standard paints it at both depths.
 pub fn sound(rng: &mut Rng) -> Scene {
     loop {
         let scene = random(rng, 7, 7, -14.0, 12.0, 6);
-        if oracle::grey_u8(Standard, scene.sides, scene.band(), 49, 0).is_ok() {
+        if oracle::grey_u16(Standard, scene.sides, scene.band(), 49, 0).is_ok() {
             return scene;
         }
     }

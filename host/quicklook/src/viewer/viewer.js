@@ -428,7 +428,7 @@ const Quicklook = (() => {
       if (window_) {
         g.fillStyle = style.getPropertyValue("--mark");
         for (const end of [window_.low, window_.high]) upright(x(end), 0, foot);
-        caption.textContent = `Band ${k + 1}: ${h.min.toFixed(2)} to ${h.max.toFixed(2)} dB, heights by square root; window from ${window_.low.toFixed(2)} to ${window_.high.toFixed(2)} dB`;
+        caption.textContent = `Band ${k + 1}: ${h.min.toFixed(2)} to ${h.max.toFixed(2)} dB, heights by square root; window from ${window_.low.toFixed(2)} to ${window_.high.toFixed(2)} dB, gamma ${window_.gamma.toFixed(1)}`;
       } else {
         caption.textContent = `Band ${k + 1}: no valid pixel`;
       }
