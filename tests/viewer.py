@@ -265,6 +265,29 @@ class Page(unittest.TestCase):
         self.assertEqual([self.text("at-row"), self.text("at-column")], ["0", "0"])
         self.assertIn("Band 2: no valid pixel", [p.text for p in self.driver.find_elements(By.CSS_SELECTOR, "#histograms p")])
 
+    def test_gamma_of_each_window(self):
+        """Little contrast and a wide scene under Standard, painted with gamma 1.1 and 0.9: told below each curve with the window's ends, greys as written."""
+        run("view", "db1.npy", "marks1.npy", "--strategy", "default", "--out", "default.html")
+        numpy.save(f"{FOLDER}/narrow.npy", numpy.linspace(0.0, 14.0, 72).reshape(8, 9))
+        numpy.save(f"{FOLDER}/wide.npy", numpy.linspace(-30.0, 30.0, 72).reshape(8, 9))
+        numpy.save(f"{FOLDER}/all.npy", numpy.ones((8, 9), numpy.uint8))
+        bands = ["narrow.npy", "all.npy", "wide.npy", "all.npy", "--strategy", "standard"]
+        run("picture", *bands, "--out", "gammas.npy", "--grey1", "narrow-grey.npy", "--grey2", "wide-grey.npy")
+        run("view", *bands, "--out", "gammas.html")
+        self.open("gammas.html")
+        captions = [p.text for p in self.driver.find_elements(By.CSS_SELECTOR, "#histograms p")]
+        self.assertEqual([caption.rsplit(", ", 1)[1] for caption in captions], ["gamma 1.1", "gamma 0.9"])
+        for k, name in enumerate(("narrow", "wide")):
+            words = subprocess.run([PROGRAM, "window", f"{name}.npy", "all.npy", "--strategy", "standard"], cwd=FOLDER, capture_output=True, text=True, check=True).stdout.split()
+            low, high, _, gamma = map(float, words[1::2])
+            self.assertTrue(captions[k].endswith(f"window from {low:.2f} to {high:.2f} dB, gamma {gamma:.1f}"), captions[k])
+        self.point_at(4, 4)
+        told = self.readout()
+        self.assertEqual([told["Grey 1"], told["Grey 2"]], [str(numpy.load(f"{FOLDER}/{name}-grey.npy")[4, 4]) for name in ("narrow", "wide")])
+        self.driver.get(f"file://{FOLDER}/default.html")
+        self.wait("document.documentElement.dataset.complete")
+        self.assertTrue(self.driver.find_element(By.CSS_SELECTOR, "#histograms p").text.endswith(", gamma 1.0"))
+
     def test_one_band_has_one_curve(self):
         self.open("one.html")
         self.assertEqual([len(self.driver.find_elements(By.CSS_SELECTOR, f"#histograms {name}")) for name in ("canvas", "li")], [1, 2])
