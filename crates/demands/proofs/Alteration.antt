@@ -11,7 +11,8 @@ use Rattle.spec.specs.Statistics.{computeHistogramStats}
 use Rattle.spec.specs.Curve.{computeHistogram}
 use Rattle.spec.specs.Window.{autoscaleWindow}
 use Rattle.spec.specs.Grey.{autoscaleDbImageToU8, autoscaleDbImageToU16, greyTests}
-use Rattle.spec.specs.Picture.{syntheticRgbPicture, pictureTests}
+use Rattle.spec.specs.Copol.{syntheticRgbPictureCopol, syntheticRgbWindows}
+use Rattle.spec.specs.Picture.{pictureTests}
 use Rattle.raster.proofs.Alteration.{same-pixels}
 use Rattle.demands.specs.Alteration.{Alteration}
 
@@ -20,7 +21,7 @@ unfolding lengthsRefused
 same-named rows cols m d d′ a = ap (λ (n : ℕ). unlike n (rows * cols) || unlike (length m) (rows * cols)) (a .sized)
 
 pub alteration : Alteration
-unfolding computeHistogramStats computeHistogram autoscaleWindow autoscaleDbImageToU8 autoscaleDbImageToU16 greyTests syntheticRgbPicture pictureTests
+unfolding computeHistogramStats computeHistogram autoscaleWindow autoscaleDbImageToU8 autoscaleDbImageToU16 greyTests syntheticRgbPictureCopol syntheticRgbWindows pictureTests
 alteration =
     record {
       statistics = λ rows cols m d d′ a. cc (same-pixels m d d′ a, same-named rows cols m d d′ a);
@@ -28,6 +29,8 @@ alteration =
       window = λ strategy rows cols m d d′ a. cc (same-pixels m d d′ a, same-named rows cols m d d′ a);
       at-8-bits = λ strategy rows cols m d d′ out work a. cc (same-pixels m d d′ a, same-named rows cols m d d′ a);
       at-16-bits = λ strategy rows cols m d d′ out work a. cc (same-pixels m d d′ a, same-named rows cols m d d′ a);
-      picture = λ strategy mode rows cols m1 d1 d1′ m2 d2 d2′ lent a b.
+      picture = λ choices rows cols m1 d1 d1′ m2 d2 d2′ lent a b.
+          cc (same-pixels m1 d1 d1′ a, same-pixels m2 d2 d2′ b, same-named rows cols m1 d1 d1′ a, same-named rows cols m2 d2 d2′ b);
+      windows = λ strategy copol rows cols m1 d1 d1′ m2 d2 d2′ a b.
           cc (same-pixels m1 d1 d1′ a, same-pixels m2 d2 d2′ b, same-named rows cols m1 d1 d1′ a, same-named rows cols m2 d2 d2′ b);
     }

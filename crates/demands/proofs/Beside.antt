@@ -11,7 +11,7 @@ use lib.ListN.{length, length-map}
 use lib.Ieee.{Float}
 use Rattle.types.specs.declared.AutoscaleStrategy.{AutoscaleStrategy}
 use Rattle.types.specs.declared.AutoscaleStrategy.the-variants.{Standard, Robust, Adaptive, Equalized, Clahe, Tamed, Default}
-use Rattle.types.specs.declared.SyntheticRgbMode.{SyntheticRgbMode}
+use Rattle.types.specs.declared.PictureChoices.{PictureChoices}
 use Rattle.types.specs.declared.Clip.{Clip}
 use Rattle.types.specs.declared.HistogramStats.{HistogramStats}
 use Rattle.types.specs.declared.WindowAnswer.{WindowAnswer}
@@ -30,7 +30,8 @@ use Rattle.spec.specs.Stretch.{stretch}
 use Rattle.spec.specs.Grey.{values, greyTests, autoscaleDbImageToU8}
 use Rattle.spec.specs.Colour.{createSyntheticRgbByModeAndStrategy}
 use Rattle.types.specs.declared.Lent.{Lent}
-use Rattle.spec.specs.Picture.{Picture, pictureGreys, composed, pictureTests, syntheticRgbPicture}
+use Rattle.spec.specs.Picture.{Picture, pictureGreys, composed, pictureTests}
+use Rattle.spec.specs.Copol.{firstIsCopol, secondIsCopol, syntheticRgbPictureCopol}
 use Rattle.lists.proofs.Counts.{Below, counts-sum}
 use Rattle.raster.proofs.Bands.{or-false}
 use Rattle.demands.specs.Beside.{withMean, withBins, withPlace, Beside}
@@ -63,7 +64,7 @@ unfolding number orRefused
 number-zero zero a e = refl
 number-zero (suc k) a e = absurd (omega (arith, e))
 
-or-zero : {A : Type 0} (k : ℕ) (a : Answer A) → k ≡ 0 → orRefused k a ≡ a
+pub or-zero : {A : Type 0} (k : ℕ) (a : Answer A) → k ≡ 0 → orRefused k a ≡ a
 unfolding orRefused
 or-zero zero a e = refl
 or-zero (suc k) a e = absurd (omega (arith, e))
@@ -183,7 +184,7 @@ placed-is rows cols m d s e = subst (λ (t : HistogramStats). t ≡ withPlace (t
 
 -- ---- the greys of a picture
 
-not-tamed : (strategy : AutoscaleStrategy) → (strategy ≡ Tamed → ⊥) → isTamed strategy ≡ false
+pub not-tamed : (strategy : AutoscaleStrategy) → (strategy ≡ Tamed → ⊥) → isTamed strategy ≡ false
 unfolding isTamed
 not-tamed Standard n = refl
 not-tamed Robust n = refl
@@ -193,7 +194,7 @@ not-tamed Clahe n = refl
 not-tamed Tamed n = absurd (n refl)
 not-tamed Default n = refl
 
-window-same : (strategy : AutoscaleStrategy) → isTamed strategy ≡ false → (copol : Bool) (s : HistogramStats) → pictureWindow strategy copol s ≡ windowOf strategy s
+pub window-same : (strategy : AutoscaleStrategy) → isTamed strategy ≡ false → (copol : Bool) (s : HistogramStats) → pictureWindow strategy copol s ≡ windowOf strategy s
 unfolding pictureWindow windowOf
 window-same strategy n copol s = rw n refl
 
@@ -215,10 +216,13 @@ module _ (strategy : AutoscaleStrategy) (n : isTamed strategy ≡ false) (rows c
       ∙ ap done (ap (λ (w : WindowAnswer). stretch (values U8 strategy rows cols (pixels m d) w)) (sym (window-same strategy n copol (statisticsOf (pixels m d))))
       ∙ sym (greys-same strategy n rows cols (pixels m d) _))
 
-module _ (strategy : AutoscaleStrategy) (n : isTamed strategy ≡ false) (mode : SyntheticRgbMode) (rows cols : ℕ) (m1 : List ℕ) (d1 : List Float) (m2 : List ℕ) (d2 : List Float) (lent : Lent) where
-  picture-grey : (p : Picture) → syntheticRgbPicture strategy mode rows cols m1 d1 m2 d2 lent ≡ done p →
+module _ (choices : PictureChoices) (n : isTamed (choices .strategy) ≡ false) (rows cols : ℕ) (m1 : List ℕ) (d1 : List Float) (m2 : List ℕ) (d2 : List Float) (lent : Lent) where
+  abbrev strategy : AutoscaleStrategy
+  strategy = choices .strategy
+
+  picture-grey : (p : Picture) → syntheticRgbPictureCopol choices rows cols m1 d1 m2 d2 lent ≡ done p →
       (autoscaleDbImageToU8 strategy rows cols m1 d1 (lent .grey1) (lent .work) ≡ done (p .grey1)) × (autoscaleDbImageToU8 strategy rows cols m2 d2 (lent .grey2) (lent .work) ≡ done (p .grey2))
-  unfolding syntheticRgbPicture pictureTests composed win
+  unfolding syntheticRgbPictureCopol pictureTests composed win
   picture-grey p e =
       let h = done-answer _ _ _ e in
       let a = none-holds 0 _ (h .0) in
@@ -230,14 +234,14 @@ module _ (strategy : AutoscaleStrategy) (n : isTamed strategy ≡ false) (mode :
       let marks = or-false (marksRefused m1) (marksRefused m2) (a .1 .1 .0) in
       let good = or-false (decibelsRefused (pixels m1 d1)) (decibelsRefused (pixels m2 d2)) (a .1 .1 .1 .0) in
       let tiles = or-false (tilesRefused strategy rows cols (pixels m1 d1)) (tilesRefused strategy rows cols (pixels m2 d2)) (a .1 .1 .1 .1 .0) in (
-        grey-done strategy n rows cols m1 d1 (lent .grey1) (lent .work) true (a .0) (names .0) (b2 .1) (b5 .1) (marks .0) (good .0) (tiles .0)
+        grey-done strategy n rows cols m1 d1 (lent .grey1) (lent .work) (firstIsCopol (choices .copol)) (a .0) (names .0) (b2 .1) (b5 .1) (marks .0) (good .0) (tiles .0)
             ∙ ap done (ap (λ (q : Picture). q .grey1) (h .1)),
-        grey-done strategy n rows cols m2 d2 (lent .grey2) (lent .work) false (a .0) (names .1) (b3 .1) (b5 .1) (marks .1) (good .1) (tiles .1)
+        grey-done strategy n rows cols m2 d2 (lent .grey2) (lent .work) (secondIsCopol (choices .copol)) (a .0) (names .1) (b3 .1) (b5 .1) (marks .1) (good .1) (tiles .1)
             ∙ ap done (ap (λ (q : Picture). q .grey2) (h .1)),
       )
 
 pub beside : Beside
-unfolding syntheticRgbPicture createSyntheticRgbByModeAndStrategy
+unfolding syntheticRgbPictureCopol createSyntheticRgbByModeAndStrategy
 beside =
     record {
       count = count-is;
@@ -251,7 +255,7 @@ beside =
       place-unread = window-place-unread;
       picture-place-unread = picture-window-place-unread;
       placed = placed-is;
-      picture-greys = λ strategy n mode rows cols m1 d1 m2 d2 lent. picture-grey strategy (not-tamed strategy n) mode rows cols m1 d1 m2 d2 lent;
-      picture-modes = λ strategy mode mode′ rows cols m1 d1 m2 d2 lent. refl;
+      picture-greys = λ choices n rows cols m1 d1 m2 d2 lent. picture-grey choices (not-tamed (choices .strategy) n) rows cols m1 d1 m2 d2 lent;
+      picture-modes = λ choices mode rows cols m1 d1 m2 d2 lent. refl;
       composition-modes = λ strategy mode mode′ band1 band2 out. refl;
     }

@@ -10,7 +10,7 @@ use lib.ListN.{length, getD}
 use lib.Ieee.{Float, nan, binary64, mul, le, ofBits, toUnsigned}
 use Rattle.types.specs.declared.AutoscaleStrategy.{AutoscaleStrategy}
 use Rattle.types.specs.declared.Clip.{Clip}
-use Rattle.types.specs.declared.SyntheticRgbMode.{SyntheticRgbMode}
+use Rattle.types.specs.declared.PictureChoices.{PictureChoices}
 use Rattle.types.specs.declared.WindowAnswer.{WindowAnswer}
 use Rattle.types.specs.declared.WindowAnswer.the-variants.{Window, Blank, Refused}
 use Rattle.spec.specs.Floats.{zero64, clampFloat}
@@ -27,7 +27,8 @@ use Rattle.gamma.proofs.Laws.{gamma-byte}
 use Rattle.spec.specs.Stretch.{stretchByte, stretch}
 use Rattle.spec.specs.Grey.{values, greyTests, autoscaleDbImageToU8, autoscaleDbImageToU16}
 use Rattle.types.specs.declared.Lent.{Lent}
-use Rattle.spec.specs.Picture.{Picture, pictureGreys, composed, pictureTests, syntheticRgbPicture}
+use Rattle.spec.specs.Picture.{Picture, pictureGreys, composed, pictureTests}
+use Rattle.spec.specs.Copol.{firstIsCopol, secondIsCopol, syntheticRgbPictureCopol}
 use Rattle.numeric.proofs.Order.{Number}
 use Rattle.numeric.proofs.Picks.{clamped-hi, toUnsigned-le}
 use Rattle.raster.proofs.Bands.{or-false, pixels-length}
@@ -182,7 +183,10 @@ module _ (strategy : AutoscaleStrategy) (n : isClahe strategy ≡ false) (rows c
       let a = accepted _ (h .0) in
       subst (Ranked m d) (h .1) (raw-ranked strategy n rows cols m d (a .0) (a .1) (eqb (statisticsOf (pixels m d) .«valid_count») 0) (chooseClip strategy (statisticsOf (pixels m d))) U16 order16)
 
-module _ (strategy : AutoscaleStrategy) (n : isClahe strategy ≡ false) (mode : SyntheticRgbMode) (rows cols : ℕ) (m1 : List ℕ) (d1 : List Float) (m2 : List ℕ) (d2 : List Float) (lent : Lent) where
+module _ (choices : PictureChoices) (n : isClahe (choices .strategy) ≡ false) (rows cols : ℕ) (m1 : List ℕ) (d1 : List Float) (m2 : List ℕ) (d2 : List Float) (lent : Lent) where
+  abbrev strategy : AutoscaleStrategy
+  strategy = choices .strategy
+
   picture-accepted : firstOf 1 (pictureTests strategy rows cols m1 d1 m2 d2 lent (pixels m1 d1) (pixels m2 d2)) ≡ 0 →
       (length m1 ≡ length d1) × (decibelsRefused (pixels m1 d1) ≡ false) × (length m2 ≡ length d2) × (decibelsRefused (pixels m2 d2) ≡ false)
   unfolding pictureTests
@@ -194,17 +198,17 @@ module _ (strategy : AutoscaleStrategy) (n : isClahe strategy ≡ false) (mode :
       let good = or-false (decibelsRefused (pixels m1 d1)) (decibelsRefused (pixels m2 d2)) (h .1 .1 .1 .0) in
       (named-lengths rows cols m1 d1 (names .0), good .0, named-lengths rows cols m2 d2 (names .1), good .1)
 
-  picture-ranked : (p : Picture) → syntheticRgbPicture strategy mode rows cols m1 d1 m2 d2 lent ≡ done p → Ranked m1 d1 (p .grey1) × Ranked m2 d2 (p .grey2)
-  unfolding syntheticRgbPicture composed pictureWindow
+  picture-ranked : (p : Picture) → syntheticRgbPictureCopol choices rows cols m1 d1 m2 d2 lent ≡ done p → Ranked m1 d1 (p .grey1) × Ranked m2 d2 (p .grey2)
+  unfolding syntheticRgbPictureCopol composed pictureWindow
   picture-ranked p e =
       let h = done-answer _ _ _ e in
       let a = picture-accepted (h .0) in
       let s1 = statisticsOf (pixels m1 d1) in
       let s2 = statisticsOf (pixels m2 d2) in (
         subst (Ranked m1 d1) (ap (λ (q : Picture). q .grey1) (h .1))
-            (greys-ranked strategy n rows cols m1 d1 (a .0) (a .1) (eqb (s1 .«valid_count») 0) (cond (isTamed strategy) (tamedClip true s1) (chooseClip strategy s1))),
+            (greys-ranked strategy n rows cols m1 d1 (a .0) (a .1) (eqb (s1 .«valid_count») 0) (cond (isTamed strategy) (tamedClip (firstIsCopol (choices .copol)) s1) (chooseClip strategy s1))),
         subst (Ranked m2 d2) (ap (λ (q : Picture). q .grey2) (h .1))
-            (greys-ranked strategy n rows cols m2 d2 (a .2) (a .3) (eqb (s2 .«valid_count») 0) (cond (isTamed strategy) (tamedClip false s2) (chooseClip strategy s2))),
+            (greys-ranked strategy n rows cols m2 d2 (a .2) (a .3) (eqb (s2 .«valid_count») 0) (cond (isTamed strategy) (tamedClip (secondIsCopol (choices .copol)) s2) (chooseClip strategy s2))),
       )
 
 pub grey-order : GreyOrder
@@ -212,5 +216,5 @@ grey-order =
     record {
       at-8-bits = λ strategy n rows cols m d out work. autoscaleDbImageToU8-ranked strategy (not-clahe strategy n) rows cols m d out work;
       at-16-bits = λ strategy n rows cols m d out work. autoscaleDbImageToU16-ranked strategy (not-clahe strategy n) rows cols m d out work;
-      picture = λ strategy n mode rows cols m1 d1 m2 d2 lent. picture-ranked strategy (not-clahe strategy n) mode rows cols m1 d1 m2 d2 lent;
+      picture = λ choices n rows cols m1 d1 m2 d2 lent. picture-ranked choices (not-clahe (choices .strategy) n) rows cols m1 d1 m2 d2 lent;
     }

@@ -11,3 +11,4 @@ pub mod Reordering
 pub mod Beside
 pub mod Echo
 pub mod Sixth
+pub mod Copol

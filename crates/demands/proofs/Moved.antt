@@ -9,7 +9,7 @@ use lib.Dec.{ltb}
 use lib.ListN.{length, getD, length-map}
 use lib.Ieee.{Float, nan}
 use Rattle.types.specs.declared.AutoscaleStrategy.{AutoscaleStrategy}
-use Rattle.types.specs.declared.SyntheticRgbMode.{SyntheticRgbMode}
+use Rattle.types.specs.declared.PictureChoices.{PictureChoices}
 use Rattle.types.specs.declared.Rgb.{Rgb}
 use Rattle.types.specs.declared.WindowAnswer.{WindowAnswer}
 use Rattle.spec.specs.Lists.{placesFrom, lowest, highest}
@@ -24,7 +24,8 @@ use Rattle.spec.specs.Stretch.{stretch, stretchByte}
 use Rattle.spec.specs.Colour.{plain, suppressed, floorLevel, coloursOf}
 use Rattle.spec.specs.Grey.{values}
 use Rattle.types.specs.declared.Lent.{Lent}
-use Rattle.spec.specs.Picture.{Picture, pictureGreys, composed, pictureTests, syntheticRgbPicture}
+use Rattle.spec.specs.Picture.{Picture, pictureGreys, composed, pictureTests}
+use Rattle.spec.specs.Copol.{firstIsCopol, secondIsCopol, syntheticRgbPictureCopol}
 use Rattle.spec.specs.Places.{Order, moved, dark, movedPicture}
 use Rattle.lists.proofs.Counts.{Below}
 use Rattle.lists.proofs.Reorder.{perm-length, any-perm, lowest-perm, highest-perm, floor-perm, moved-perm, zip-moved, map-moved, map-same}
@@ -188,12 +189,21 @@ bad-answer ps false true c e e′ p q = refl
 bad-answer ps false false true e e′ p q = refl
 bad-answer ps false false false e e′ p q = refl
 
-module _ (ps : List ℕ) (n : ℕ) (o : Order ps n) (strategy : AutoscaleStrategy) (mode : SyntheticRgbMode) (c : isClahe strategy ≡ false) (rows cols : ℕ)
+module _ (ps : List ℕ) (n : ℕ) (o : Order ps n) (choices : PictureChoices) (c : isClahe (choices .strategy) ≡ false) (rows cols : ℕ)
     (m1 : List ℕ) (d1 : List Float) (m2 : List ℕ) (d2 : List Float) (lent : Lent)
     (em1 : length m1 ≡ n) (ed1 : length d1 ≡ n) (em2 : length m2 ≡ n) (ed2 : length d2 ≡ n) where
+  abbrev strategy : AutoscaleStrategy
+  strategy = choices .strategy
+
+  abbrev first : Bool
+  first = firstIsCopol (choices .copol)
+
+  abbrev second : Bool
+  second = secondIsCopol (choices .copol)
+
   -- bands without refusal 4 whose windows paint alike
-  module _ (s1 : Steady (win strategy true (moved off ps (pixels m1 d1))) (win strategy true (pixels m1 d1)))
-      (s2 : Steady (win strategy false (moved off ps (pixels m2 d2))) (win strategy false (pixels m2 d2))) where
+  module _ (s1 : Steady (win strategy first (moved off ps (pixels m1 d1))) (win strategy first (pixels m1 d1)))
+      (s2 : Steady (win strategy second (moved off ps (pixels m2 d2))) (win strategy second (pixels m2 d2))) where
     greys-of : (copol : Bool) (m : List ℕ) (d : List Float) → length m ≡ n → length d ≡ n → Steady (win strategy copol (moved off ps (pixels m d))) (win strategy copol (pixels m d)) →
         pictureGreys strategy rows cols (moved off ps (pixels m d)) (win strategy copol (moved off ps (pixels m d))) ≡ moved 0 ps (pictureGreys strategy rows cols (pixels m d) (win strategy copol (pixels m d)))
     greys-of copol m d e f s =
@@ -216,21 +226,21 @@ module _ (ps : List ℕ) (n : ℕ) (o : Order ps n) (strategy : AutoscaleStrateg
         )
 
     steady-picture :
-        syntheticRgbPicture strategy mode rows cols (moved 0 ps m1) (moved nan ps d1) (moved 0 ps m2) (moved nan ps d2) lent
-        ≡ movedPicture ps (syntheticRgbPicture strategy mode rows cols m1 d1 m2 d2 lent)
-    unfolding syntheticRgbPicture composed
+        syntheticRgbPictureCopol choices rows cols (moved 0 ps m1) (moved nan ps d1) (moved 0 ps m2) (moved nan ps d2) lent
+        ≡ movedPicture ps (syntheticRgbPictureCopol choices rows cols m1 d1 m2 d2 lent)
+    unfolding syntheticRgbPictureCopol composed
     steady-picture =
         rw (moved-pixels ps n o m1 d1 em1 ed1, moved-pixels ps n o m2 d2 em2 ed2, tests-moved)
-        (answer-moved ps n o _ _ _ (greys-of true m1 d1 em1 ed1 s1) (greys-of false m2 d2 em2 ed2 s2)
-        (ap₂ (coloursOf strategy) (greys-of true m1 d1 em1 ed1 s1) (greys-of false m2 d2 em2 ed2 s2)
+        (answer-moved ps n o _ _ _ (greys-of first m1 d1 em1 ed1 s1) (greys-of second m2 d2 em2 ed2 s2)
+        (ap₂ (coloursOf strategy) (greys-of first m1 d1 em1 ed1 s1) (greys-of second m2 d2 em2 ed2 s2)
         ∙ colours-moved ps n o strategy _ _ (greys-size ps n o strategy c rows cols (pixels m1 d1) _ ∙ pixels-size ps n o m1 d1 em1 ed1)
         (greys-size ps n o strategy c rows cols (pixels m2 d2) _ ∙ pixels-size ps n o m2 d2 em2 ed2)))
 
   -- a band with refusal 4
   bad-picture : (decibelsRefused (pixels m1 d1) || decibelsRefused (pixels m2 d2)) ≡ true →
-      syntheticRgbPicture strategy mode rows cols (moved 0 ps m1) (moved nan ps d1) (moved 0 ps m2) (moved nan ps d2) lent
-      ≡ movedPicture ps (syntheticRgbPicture strategy mode rows cols m1 d1 m2 d2 lent)
-  unfolding syntheticRgbPicture pictureTests
+      syntheticRgbPictureCopol choices rows cols (moved 0 ps m1) (moved nan ps d1) (moved 0 ps m2) (moved nan ps d2) lent
+      ≡ movedPicture ps (syntheticRgbPictureCopol choices rows cols m1 d1 m2 d2 lent)
+  unfolding syntheticRgbPictureCopol pictureTests
   bad-picture h =
       rw (
         moved-pixels ps n o m1 d1 em1 ed1,
@@ -247,14 +257,14 @@ module _ (ps : List ℕ) (n : ℕ) (o : Order ps n) (strategy : AutoscaleStrateg
 
   -- the claim, from windows that paint alike wherever no refusal 4 stands in the way
   pub reordered-picture :
-      (decibelsRefused (pixels m1 d1) ≡ false → Steady (win strategy true (moved off ps (pixels m1 d1))) (win strategy true (pixels m1 d1))) →
-      (decibelsRefused (pixels m2 d2) ≡ false → Steady (win strategy false (moved off ps (pixels m2 d2))) (win strategy false (pixels m2 d2))) →
-      syntheticRgbPicture strategy mode rows cols (moved 0 ps m1) (moved nan ps d1) (moved 0 ps m2) (moved nan ps d2) lent
-      ≡ movedPicture ps (syntheticRgbPicture strategy mode rows cols m1 d1 m2 d2 lent)
+      (decibelsRefused (pixels m1 d1) ≡ false → Steady (win strategy first (moved off ps (pixels m1 d1))) (win strategy first (pixels m1 d1))) →
+      (decibelsRefused (pixels m2 d2) ≡ false → Steady (win strategy second (moved off ps (pixels m2 d2))) (win strategy second (pixels m2 d2))) →
+      syntheticRgbPictureCopol choices rows cols (moved 0 ps m1) (moved nan ps d1) (moved 0 ps m2) (moved nan ps d2) lent
+      ≡ movedPicture ps (syntheticRgbPictureCopol choices rows cols m1 d1 m2 d2 lent)
   reordered-picture s1 s2 = go (decibelsRefused (pixels m1 d1) || decibelsRefused (pixels m2 d2)) refl
     where
       go : (t : Bool) → (decibelsRefused (pixels m1 d1) || decibelsRefused (pixels m2 d2)) ≡ t →
-          syntheticRgbPicture strategy mode rows cols (moved 0 ps m1) (moved nan ps d1) (moved 0 ps m2) (moved nan ps d2) lent
-          ≡ movedPicture ps (syntheticRgbPicture strategy mode rows cols m1 d1 m2 d2 lent)
+          syntheticRgbPictureCopol choices rows cols (moved 0 ps m1) (moved nan ps d1) (moved 0 ps m2) (moved nan ps d2) lent
+          ≡ movedPicture ps (syntheticRgbPictureCopol choices rows cols m1 d1 m2 d2 lent)
       go true h = bad-picture h
       go false h = steady-picture (s1 (or-false _ _ h .0)) (s2 (or-false (decibelsRefused (pixels m1 d1)) (decibelsRefused (pixels m2 d2)) h .1))

@@ -9,7 +9,7 @@ use lib.Dec.{lit<}
 use lib.ListN.{length, getD}
 use lib.Ieee.{Float, nan}
 use Rattle.types.specs.declared.AutoscaleStrategy.{AutoscaleStrategy}
-use Rattle.types.specs.declared.SyntheticRgbMode.{SyntheticRgbMode}
+use Rattle.types.specs.declared.PictureChoices.{PictureChoices}
 use Rattle.types.specs.declared.Place.{Place}
 use Rattle.types.specs.declared.Rgb.{Rgb}
 use Rattle.spec.specs.Number.{Alike, same}
@@ -24,7 +24,8 @@ use Rattle.spec.specs.Strongest.{nowhere}
 use Rattle.spec.specs.Curve.{curveOf, computeHistogram}
 use Rattle.spec.specs.Colour.{bytesOf}
 use Rattle.types.specs.declared.Lent.{Lent}
-use Rattle.spec.specs.Picture.{Picture, syntheticRgbPicture}
+use Rattle.spec.specs.Copol.{firstIsCopol, secondIsCopol, syntheticRgbPictureCopol}
+use Rattle.spec.specs.Picture.{Picture}
 use Rattle.spec.specs.Places.{Order, moved, dark, movedPicture}
 use Rattle.lists.proofs.Reorder.{perm-length, valid-perm, moved-perm}
 use Rattle.numeric.proofs.Order.{Number, number-of-finite}
@@ -119,7 +120,10 @@ module _ (ps : List ℕ) (n : ℕ) (o : Order ps n) (m : List ℕ) (d : List Flo
 
 -- ---- a picture
 
-module _ (ps : List ℕ) (n : ℕ) (o : Order ps n) (strategy : AutoscaleStrategy) (r : Reorders strategy) where
+module _ (ps : List ℕ) (n : ℕ) (o : Order ps n) (choices : PictureChoices) (r : Reorders (choices .strategy)) where
+  abbrev strategy : AutoscaleStrategy
+  strategy = choices .strategy
+
   band-steady : (copol : Bool) (m : List ℕ) (d : List Float) → length m ≡ n → length d ≡ n → AreF64 d → decibelsRefused (pixels m d) ≡ false →
       Steady (win strategy copol (moved off ps (pixels m d))) (win strategy copol (pixels m d))
   unfolding statisticsOf summaryOf
@@ -129,12 +133,12 @@ module _ (ps : List ℕ) (n : ℕ) (o : Order ps n) (strategy : AutoscaleStrateg
       steady-sym s = record { paints = λ depth p. sym (s .paints depth p) }
 
   -- reply, greys and colours of the reordered scene are those of the scene, moved
-  reordered : (mode : SyntheticRgbMode) (rows cols : ℕ) (m1 : List ℕ) (d1 : List Float) (m2 : List ℕ) (d2 : List Float) (lent : Lent) →
+  reordered : (rows cols : ℕ) (m1 : List ℕ) (d1 : List Float) (m2 : List ℕ) (d2 : List Float) (lent : Lent) →
       length m1 ≡ n → length d1 ≡ n → length m2 ≡ n → length d2 ≡ n → AreF64 d1 → AreF64 d2 →
-      syntheticRgbPicture strategy mode rows cols (moved 0 ps m1) (moved nan ps d1) (moved 0 ps m2) (moved nan ps d2) lent
-      ≡ movedPicture ps (syntheticRgbPicture strategy mode rows cols m1 d1 m2 d2 lent)
-  reordered mode rows cols m1 d1 m2 d2 lent em1 ed1 em2 ed2 f1 f2 =
-      reordered-picture ps n o strategy mode (not-clahe strategy (r .1)) rows cols m1 d1 m2 d2 lent em1 ed1 em2 ed2 (band-steady true m1 d1 em1 ed1 f1) (band-steady false m2 d2 em2 ed2 f2)
+      syntheticRgbPictureCopol choices rows cols (moved 0 ps m1) (moved nan ps d1) (moved 0 ps m2) (moved nan ps d2) lent
+      ≡ movedPicture ps (syntheticRgbPictureCopol choices rows cols m1 d1 m2 d2 lent)
+  reordered rows cols m1 d1 m2 d2 lent em1 ed1 em2 ed2 f1 f2 =
+      reordered-picture ps n o choices (not-clahe strategy (r .1)) rows cols m1 d1 m2 d2 lent em1 ed1 em2 ed2 (band-steady (firstIsCopol (choices .copol)) m1 d1 em1 ed1 f1) (band-steady (secondIsCopol (choices .copol)) m2 d2 em2 ed2 f2)
 
 -- ---- in bytes
 
@@ -180,9 +184,9 @@ in-bytes ps (done p) b e = subst (MovedBy ps (done p)) (sym e) (both-done refl r
 pub reordering : Reordering
 reordering =
     record {
-      picture = λ strategy r mode rows cols m1 d1 m2 d2 lent n em1 ed1 em2 ed2 f1 f2 ps o.
-          in-bytes ps _ _ (reordered ps n o strategy r mode rows cols m1 d1 m2 d2 lent em1 ed1 em2 ed2 f1 f2);
+      picture = λ choices r rows cols m1 d1 m2 d2 lent n em1 ed1 em2 ed2 f1 f2 ps o.
+          in-bytes ps _ _ (reordered ps n o choices r rows cols m1 d1 m2 d2 lent em1 ed1 em2 ed2 f1 f2);
       bins = λ rows cols m d n e f h ps o. bins-same ps n o m d e f h rows cols;
       curve = λ rows cols m d out n e f h ps o. curve-same ps n o m d e f h rows cols out;
-      equation = λ strategy r mode rows cols m1 d1 m2 d2 lent n em1 ed1 em2 ed2 f1 f2 ps o. reordered ps n o strategy r mode rows cols m1 d1 m2 d2 lent em1 ed1 em2 ed2 f1 f2;
+      equation = λ choices r rows cols m1 d1 m2 d2 lent n em1 ed1 em2 ed2 f1 f2 ps o. reordered ps n o choices r rows cols m1 d1 m2 d2 lent em1 ed1 em2 ed2 f1 f2;
     }

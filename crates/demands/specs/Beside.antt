@@ -7,6 +7,7 @@ use lib.ListN.{length}
 use lib.Ieee.{Float}
 use Rattle.types.specs.declared.AutoscaleStrategy.{AutoscaleStrategy}
 use Rattle.types.specs.declared.AutoscaleStrategy.the-variants.{Adaptive, Tamed}
+use Rattle.types.specs.declared.PictureChoices.{PictureChoices}
 use Rattle.types.specs.declared.SyntheticRgbMode.{SyntheticRgbMode}
 use Rattle.types.specs.declared.HistogramStats.{HistogramStats}
 use Rattle.spec.specs.Answer.{done, number}
@@ -18,7 +19,8 @@ use Rattle.spec.specs.Window.{windowOf, pictureWindow, autoscaleWindow}
 use Rattle.spec.specs.Grey.{autoscaleDbImageToU8}
 use Rattle.spec.specs.Colour.{createSyntheticRgbByModeAndStrategy}
 use Rattle.types.specs.declared.Lent.{Lent}
-use Rattle.spec.specs.Picture.{Picture, syntheticRgbPicture}
+use Rattle.spec.specs.Copol.{syntheticRgbPictureCopol}
+use Rattle.spec.specs.Picture.{Picture}
 
 -- the statistics with another mean and deviation
 abbrev pub withMean : Float → Float → HistogramStats → HistogramStats
@@ -130,12 +132,13 @@ pub record Beside : Type 0 where
       (rows cols : ℕ) (marks : List ℕ) (db : List Float) (s : HistogramStats) → computeHistogramStats rows cols marks db ≡ done s → s ≡ withPlace (s .«max_row») (s .«max_col») (statisticsOf (pixels marks db))
   -- outside Tamed the greys of a picture are those of the grey call at 8 bits
   pub picture-greys :
-      (strategy : AutoscaleStrategy) → (strategy ≡ Tamed → ⊥) → (mode : SyntheticRgbMode) (rows cols : ℕ) (marks1 : List ℕ) (db1 : List Float) (marks2 : List ℕ) (db2 : List Float)
-      (lent : Lent) (p : Picture) → syntheticRgbPicture strategy mode rows cols marks1 db1 marks2 db2 lent ≡ done p →
-      (autoscaleDbImageToU8 strategy rows cols marks1 db1 (lent .grey1) (lent .work) ≡ done (p .grey1)) × (autoscaleDbImageToU8 strategy rows cols marks2 db2 (lent .grey2) (lent .work) ≡ done (p .grey2))
+      (choices : PictureChoices) → (choices .strategy ≡ Tamed → ⊥) → (rows cols : ℕ) (marks1 : List ℕ) (db1 : List Float) (marks2 : List ℕ) (db2 : List Float)
+      (lent : Lent) (p : Picture) → syntheticRgbPictureCopol choices rows cols marks1 db1 marks2 db2 lent ≡ done p →
+      (autoscaleDbImageToU8 (choices .strategy) rows cols marks1 db1 (lent .grey1) (lent .work) ≡ done (p .grey1))
+      × (autoscaleDbImageToU8 (choices .strategy) rows cols marks2 db2 (lent .grey2) (lent .work) ≡ done (p .grey2))
   -- "all modes agree"
   pub picture-modes :
-      (strategy : AutoscaleStrategy) (mode mode′ : SyntheticRgbMode) (rows cols : ℕ) (marks1 : List ℕ) (db1 : List Float) (marks2 : List ℕ) (db2 : List Float) (lent : Lent) →
-      syntheticRgbPicture strategy mode rows cols marks1 db1 marks2 db2 lent ≡ syntheticRgbPicture strategy mode′ rows cols marks1 db1 marks2 db2 lent
+      (choices : PictureChoices) (mode : SyntheticRgbMode) (rows cols : ℕ) (marks1 : List ℕ) (db1 : List Float) (marks2 : List ℕ) (db2 : List Float) (lent : Lent) →
+      syntheticRgbPictureCopol choices rows cols marks1 db1 marks2 db2 lent ≡ syntheticRgbPictureCopol (record { strategy = choices .strategy; mode = mode; copol = choices .copol }) rows cols marks1 db1 marks2 db2 lent
   pub composition-modes :
       (strategy : AutoscaleStrategy) (mode mode′ : SyntheticRgbMode) (band1 band2 : List ℕ) (out : ℕ) → createSyntheticRgbByModeAndStrategy mode strategy band1 band2 out ≡ createSyntheticRgbByModeAndStrategy mode′ strategy band1 band2 out

@@ -8,11 +8,12 @@ use lib.ListN.{getD}
 use lib.Ieee.{Float, nan, le}
 use Rattle.types.specs.declared.AutoscaleStrategy.{AutoscaleStrategy}
 use Rattle.types.specs.declared.AutoscaleStrategy.the-variants.{Clahe}
-use Rattle.types.specs.declared.SyntheticRgbMode.{SyntheticRgbMode}
+use Rattle.types.specs.declared.PictureChoices.{PictureChoices}
 use Rattle.spec.specs.Answer.{done}
 use Rattle.spec.specs.Grey.{autoscaleDbImageToU8, autoscaleDbImageToU16}
 use Rattle.types.specs.declared.Lent.{Lent}
-use Rattle.spec.specs.Picture.{Picture, syntheticRgbPicture}
+use Rattle.spec.specs.Copol.{syntheticRgbPictureCopol}
+use Rattle.spec.specs.Picture.{Picture}
 
 -- "outside Clahe"
 abbrev pub OutsideClahe : AutoscaleStrategy → Type 0
@@ -31,7 +32,8 @@ pub record GreyOrder : Type 0 where
   pub at-16-bits :
       (strategy : AutoscaleStrategy) → OutsideClahe strategy → (rows cols : ℕ) (marks : List ℕ) (db : List Float) (out work : ℕ) (greys : List ℕ) →
       autoscaleDbImageToU16 strategy rows cols marks db out work ≡ done greys → Ranked marks db greys
+  -- whichever band is co-pol
   pub picture :
-      (strategy : AutoscaleStrategy) → OutsideClahe strategy → (mode : SyntheticRgbMode) (rows cols : ℕ) (marks1 : List ℕ) (db1 : List Float) (marks2 : List ℕ) (db2 : List Float)
+      (choices : PictureChoices) → OutsideClahe (choices .strategy) → (rows cols : ℕ) (marks1 : List ℕ) (db1 : List Float) (marks2 : List ℕ) (db2 : List Float)
       (lent : Lent) (p : Picture) →
-      syntheticRgbPicture strategy mode rows cols marks1 db1 marks2 db2 lent ≡ done p → Ranked marks1 db1 (p .grey1) × Ranked marks2 db2 (p .grey2)
+      syntheticRgbPictureCopol choices rows cols marks1 db1 marks2 db2 lent ≡ done p → Ranked marks1 db1 (p .grey1) × Ranked marks2 db2 (p .grey2)

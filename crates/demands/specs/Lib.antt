@@ -4,3 +4,4 @@ pub mod Reordering
 pub mod Beside
 pub mod Echo
 pub mod Sixth
+pub mod Copol

@@ -7,14 +7,15 @@ use lib.ListN.{length, getD}
 use lib.Ieee.{Float, nan, binary64, fits}
 use Rattle.types.specs.declared.AutoscaleStrategy.{AutoscaleStrategy}
 use Rattle.types.specs.declared.AutoscaleStrategy.the-variants.{Adaptive, Clahe}
-use Rattle.types.specs.declared.SyntheticRgbMode.{SyntheticRgbMode}
+use Rattle.types.specs.declared.PictureChoices.{PictureChoices}
 use Rattle.types.specs.declared.HistogramStats.{HistogramStats}
 use Rattle.spec.specs.Answer.{Answer, refused, done}
 use Rattle.spec.specs.Statistics.{computeHistogramStats}
 use Rattle.spec.specs.Curve.{computeHistogram}
 use Rattle.spec.specs.Colour.{bytesOf}
 use Rattle.types.specs.declared.Lent.{Lent}
-use Rattle.spec.specs.Picture.{Picture, syntheticRgbPicture}
+use Rattle.spec.specs.Copol.{syntheticRgbPictureCopol}
+use Rattle.spec.specs.Picture.{Picture}
 use Rattle.spec.specs.Places.{Order, moved, movedPicture}
 
 -- "For every strategy but Adaptive and Clahe"
@@ -43,19 +44,19 @@ pub data SameBins : Answer HistogramStats → Answer HistogramStats → Type 0 w
   same-bins : {s t : HistogramStats} → s .«p05_bin» ≡ t .«p05_bin» → s .«p95_bin» ≡ t .«p95_bin» → SameBins (done s) (done t)
 
 -- "A reordering is one permutation of the places of four lists of one length, n or not: dB and marks of both bands."
--- "the two scenes compared have the same sides, strategy, mode and lent lengths"
+-- "the two scenes compared have the same sides, strategy, mode and lent lengths"; document 02, F-2: "A reordering keeps that choice with its band."
 pub record Reordering : Type 0 where
   pub picture :
-      (strategy : AutoscaleStrategy) → Reorders strategy → (mode : SyntheticRgbMode) (rows cols : ℕ) (marks1 : List ℕ) (db1 : List Float) (marks2 : List ℕ) (db2 : List Float) (lent : Lent)
+      (choices : PictureChoices) → Reorders (choices .strategy) → (rows cols : ℕ) (marks1 : List ℕ) (db1 : List Float) (marks2 : List ℕ) (db2 : List Float) (lent : Lent)
       (size : ℕ) → length marks1 ≡ size → length db1 ≡ size → length marks2 ≡ size → length db2 ≡ size → AreF64 db1 → AreF64 db2 → (ps : List ℕ) → Order ps size →
-      MovedBy ps (syntheticRgbPicture strategy mode rows cols marks1 db1 marks2 db2 lent)
-      (syntheticRgbPicture strategy mode rows cols (moved 0 ps marks1) (moved nan ps db1) (moved 0 ps marks2) (moved nan ps db2) lent)
+      MovedBy ps (syntheticRgbPictureCopol choices rows cols marks1 db1 marks2 db2 lent)
+      (syntheticRgbPictureCopol choices rows cols (moved 0 ps marks1) (moved nan ps db1) (moved 0 ps marks2) (moved nan ps db2) lent)
   -- the same as one equation
   pub equation :
-      (strategy : AutoscaleStrategy) → Reorders strategy → (mode : SyntheticRgbMode) (rows cols : ℕ) (marks1 : List ℕ) (db1 : List Float) (marks2 : List ℕ) (db2 : List Float) (lent : Lent)
+      (choices : PictureChoices) → Reorders (choices .strategy) → (rows cols : ℕ) (marks1 : List ℕ) (db1 : List Float) (marks2 : List ℕ) (db2 : List Float) (lent : Lent)
       (size : ℕ) → length marks1 ≡ size → length db1 ≡ size → length marks2 ≡ size → length db2 ≡ size → AreF64 db1 → AreF64 db2 → (ps : List ℕ) → Order ps size →
-      syntheticRgbPicture strategy mode rows cols (moved 0 ps marks1) (moved nan ps db1) (moved 0 ps marks2) (moved nan ps db2) lent
-      ≡ movedPicture ps (syntheticRgbPicture strategy mode rows cols marks1 db1 marks2 db2 lent)
+      syntheticRgbPictureCopol choices rows cols (moved 0 ps marks1) (moved nan ps db1) (moved 0 ps marks2) (moved nan ps db2) lent
+      ≡ movedPicture ps (syntheticRgbPictureCopol choices rows cols marks1 db1 marks2 db2 lent)
   -- the bins of p05 and p95 and the whole curve do not see the order
   pub bins :
       (rows cols : ℕ) (marks : List ℕ) (db : List Float) (size : ℕ) → length marks ≡ size → length db ≡ size → AreF64 db → (ps : List ℕ) → Order ps size →

@@ -75,3 +75,12 @@ module _ (strategy : AutoscaleStrategy) (rows cols : ℕ) (m1 : List ℕ) (d1 : 
         band2 = record { band = sized rows cols m2 d2 (a .0) (n .1); out-length = named (lent .grey2) (rows * cols) (g2 .1); work-length = k };
         rgb-length = named (lent .rgb) (3 * (rows * cols)) (c .1);
       }
+
+-- two bands by themselves
+pub bands-sized : (rows cols : ℕ) (m1 : List ℕ) (d1 : List Float) (m2 : List ℕ) (d2 : List Float) (ts : List Bool) →
+    firstOf 1 (sidesRefused rows cols ∷ (lengthsRefused rows cols m1 d1 || lengthsRefused rows cols m2 d2) ∷ ts) ≡ 0 → Raster rows cols m1 d1 × Raster rows cols m2 d2
+bands-sized rows cols m1 d1 m2 d2 ts e =
+    let a = none-applies 0 (sidesRefused rows cols) ((lengthsRefused rows cols m1 d1 || lengthsRefused rows cols m2 d2) ∷ ts) e in
+    let b = none-applies 1 (lengthsRefused rows cols m1 d1 || lengthsRefused rows cols m2 d2) ts (a .1) in
+    let n = or-false (lengthsRefused rows cols m1 d1) (lengthsRefused rows cols m2 d2) (b .0) in
+    (sized rows cols m1 d1 (a .0) (n .0), sized rows cols m2 d2 (a .0) (n .1))

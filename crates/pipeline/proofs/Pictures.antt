@@ -7,10 +7,14 @@ use native.Mathlib.Omega.{arith}
 use lib.Ieee.{Float}
 use Rattle.types.specs.declared.AutoscaleStrategy.{AutoscaleStrategy}
 use Rattle.types.specs.declared.AutoscaleStrategy.the-variants.{Standard, Robust, Adaptive, Equalized, Clahe, Tamed, Default}
+use Rattle.types.specs.declared.CoPol.{CoPol}
+use Rattle.types.specs.declared.PictureWindows.{PictureWindows}
+use Rattle.types.specs.declared.PictureWindows.the-variants as Both
 use Rattle.types.specs.declared.WindowAnswer.{WindowAnswer}
 use Rattle.types.specs.declared.WindowAnswer.the-variants.{Refused}
 use Rattle.spec.specs.Answer.{Answer, refused, done, firstOf, orRefused, answer, number, after}
 use Rattle.spec.specs.Colour.{bytesOf, coloursOf}
+use Rattle.spec.specs.Copol.{firstIsCopol, secondIsCopol}
 use Rattle.spec.specs.Grey.{values}
 use Rattle.types.specs.declared.Lent.{Lent}
 use Rattle.spec.specs.Picture.{Picture, pictureGreys, composed, pictureTests}
@@ -23,8 +27,6 @@ use Rattle.spec.specs.Window.{pictureWindow}
 use Rattle.autoscale.specs.Painted.{plainValues, opens}
 use Rattle.autoscale.proofs.Painted.{values-outside}
 use Rattle.gamma.proofs.Gammas.{gammas}
-use Rattle.pipeline.specs.declared.windows.PictureWindows.{PictureWindows}
-use Rattle.pipeline.specs.declared.windows.PictureWindows.the-variants as Both
 use Rattle.pipeline.specs.Windows.{unless, pictureWindows}
 use Rattle.pipeline.specs.Work.{uses, Kept}
 use Rattle.pipeline.proofs.Accepted.{PictureSized, picture-sized}
@@ -68,8 +70,8 @@ unless-windows zero a b u v e = (refl, (let z : u ≡ a = cc in z), (let z : v �
 unless-windows (suc j) a b u v e = absurd (let z : _≡_ {A = ℕ} 0 1 = cc in omega arith)
 
 -- ---- the call
-module _ (strategy : AutoscaleStrategy) (rows cols : ℕ) (m1 : List ℕ) (d1 : List Float) (m2 : List ℕ) (d2 : List Float) (lent : Lent) (w : PictureWindows)
-    (is : w ≡ pictureWindows strategy rows cols m1 d1 m2 d2 lent) where
+module _ (strategy : AutoscaleStrategy) (copol : CoPol) (rows cols : ℕ) (m1 : List ℕ) (d1 : List Float) (m2 : List ℕ) (d2 : List Float) (lent : Lent) (w : PictureWindows)
+    (is : w ≡ pictureWindows strategy copol rows cols m1 d1 m2 d2 lent) where
   abbrev px1 : List Pixel
   px1 = pixels m1 d1
 
@@ -77,10 +79,10 @@ module _ (strategy : AutoscaleStrategy) (rows cols : ℕ) (m1 : List ℕ) (d1 : 
   px2 = pixels m2 d2
 
   abbrev w01 : WindowAnswer
-  w01 = pictureWindow strategy true (statisticsOf px1)
+  w01 = pictureWindow strategy (firstIsCopol copol) (statisticsOf px1)
 
   abbrev w02 : WindowAnswer
-  w02 = pictureWindow strategy false (statisticsOf px2)
+  w02 = pictureWindow strategy (secondIsCopol copol) (statisticsOf px2)
 
   abbrev n : ℕ
   n = firstOf 1 (pictureTests strategy rows cols m1 d1 m2 d2 lent px1 px2)
@@ -124,8 +126,8 @@ module _ (strategy : AutoscaleStrategy) (rows cols : ℕ) (m1 : List ℕ) (d1 : 
 
     pub picture-opens : (opens U8 w1 ≡ true) × (opens U8 w2 ≡ true)
     picture-opens = (
-      rw (parts .1) (opens-usual w01 (gammas .picture strategy true (statisticsOf px1))),
-      rw (parts .2) (opens-usual w02 (gammas .picture strategy false (statisticsOf px2))),
+      rw (parts .1) (opens-usual w01 (gammas .picture strategy (firstIsCopol copol) (statisticsOf px1))),
+      rw (parts .2) (opens-usual w02 (gammas .picture strategy (secondIsCopol copol) (statisticsOf px2))),
     )
 
     is-done : owed ≡ done painted

@@ -1,22 +1,24 @@
 -- What the calls know before they write: their windows, with the refusals folded in. Definitions only.
 use Prim.Native.Nat.{ℕ, zero, suc, _*_}
-use mathlib.Core.Bool.{Bool, true, false, _&&_, _||_}
+use mathlib.Core.Bool.{Bool, true, false, cond, _&&_, _||_}
 use mathlib.Core.List.{List, [], _∷_, _++_}
 use lib.Ieee.{Float}
 use Rattle.types.specs.declared.AutoscaleStrategy.{AutoscaleStrategy}
+use Rattle.types.specs.declared.CoPol.{CoPol}
 use Rattle.types.specs.declared.Lent.{Lent}
+use Rattle.types.specs.declared.PictureWindows.{PictureWindows}
+use Rattle.types.specs.declared.PictureWindows.the-variants as Both
 use Rattle.types.specs.declared.WindowAnswer.{WindowAnswer}
 use Rattle.types.specs.declared.WindowAnswer.the-variants.{Window, Blank, Refused}
 use Rattle.spec.specs.Answer.{firstOf}
 use Rattle.spec.specs.Grey.{greyTests}
+use Rattle.spec.specs.Copol.{windowsOf}
 use Rattle.spec.specs.Picture.{pictureTests}
-use Rattle.spec.specs.Pixels.{pixels}
-use Rattle.spec.specs.Refusals.{lengthsRefused, unlike, workRefused, sideRefused}
+use Rattle.spec.specs.Pixels.{Pixel, pixels}
+use Rattle.spec.specs.Refusals.{lengthsRefused, unlike, workRefused, sideRefused, decibelsRefused}
 use Rattle.spec.specs.Statistics.{statisticsOf}
 use Rattle.spec.specs.Strategies.{isClahe}
-use Rattle.spec.specs.Window.{windowOf, pictureWindow, gammaRefused}
-use Rattle.pipeline.specs.declared.windows.PictureWindows.{PictureWindows}
-use Rattle.pipeline.specs.declared.windows.PictureWindows.the-variants as Both
+use Rattle.spec.specs.Window.{windowOf, gammaRefused}
 
 -- whether there is a window, so a valid pixel
 unfoldable pub hasWindow : WindowAnswer → Bool
@@ -53,11 +55,17 @@ pictureLengthsRefused strategy rows cols marks1 db1 marks2 db2 lent =
     lengthsRefused rows cols marks1 db1 || lengthsRefused rows cols marks2 db2 || unlike (lent .grey1) (rows * cols)
     || unlike (lent .grey2) (rows * cols) || unlike (lent .rgb) (3 * (rows * cols)) || workRefused strategy (lent .work)
 
+-- `windowsOf` as the declared answer has them
+abbrev pub answeredWindows : AutoscaleStrategy → CoPol → List Pixel → List Pixel → PictureWindows
+answeredWindows strategy copol px1 px2 = let w = windowsOf strategy copol px1 px2 in Both.Windows (w .first) (w .second)
+
+-- .. or refused with 4
+unfoldable pub bothWindows : AutoscaleStrategy → CoPol → List Pixel → List Pixel → PictureWindows
+bothWindows strategy copol px1 px2 = cond (decibelsRefused px1 || decibelsRefused px2) (Both.Refused 4) (answeredWindows strategy copol px1 px2)
+
 -- both windows of a picture, or the number that refuses the call
-unfoldable pub pictureWindows : AutoscaleStrategy → ℕ → ℕ → List ℕ → List Float → List ℕ → List Float → Lent → PictureWindows
-pictureWindows strategy rows cols marks1 db1 marks2 db2 lent =
+unfoldable pub pictureWindows : AutoscaleStrategy → CoPol → ℕ → ℕ → List ℕ → List Float → List ℕ → List Float → Lent → PictureWindows
+pictureWindows strategy copol rows cols marks1 db1 marks2 db2 lent =
     let px1 = pixels marks1 db1 in
     let px2 = pixels marks2 db2 in
-    let w1 = pictureWindow strategy true (statisticsOf px1) in
-    let w2 = pictureWindow strategy false (statisticsOf px2) in
-    unless Both.Refused (firstOf 1 (pictureTests strategy rows cols marks1 db1 marks2 db2 lent px1 px2)) (Both.Windows w1 w2)
+    unless Both.Refused (firstOf 1 (pictureTests strategy rows cols marks1 db1 marks2 db2 lent px1 px2)) (answeredWindows strategy copol px1 px2)

@@ -2,20 +2,19 @@
 ghost use mathlib.Core.Path.{_≡_};
 ghost use mathlib.Core.Bool.{_||_};
 ghost use mathlib.Core.List.{_∷_, []};
-ghost use Prim.Native.Nat.{_*_, _≤_};
+ghost use Prim.Native.Nat.{_*_, _≤_, _<_, _^_};
+ghost use lib.ListN.{length};
 ghost use Rattle.spec.specs.Answer.{firstOf};
+ghost use Rattle.spec.specs.Pixels.{pixels};
 ghost use Rattle.spec.specs.Refusals.{sidesRefused, lengthsRefused, unlike, workRefused, marksRefused};
-ghost use Rattle.pipeline.specs.Windows.{windowTilesRefused, greyWindow, greyWindow16, pictureLengthsRefused, pictureWindows};
+ghost use Rattle.pipeline.specs.Windows.{windowTilesRefused, greyWindow, greyWindow16, pictureLengthsRefused, bothWindows, pictureWindows};
 use crate::strategies;
 use types::AutoscaleStrategy;
+use types::CoPol;
 use types::Lent;
+use types::PictureWindows;
+use types::Sides;
 use types::WindowAnswer;
-
-// Both windows of a picture, or the number that refuses the call.
-pub enum PictureWindows {
-    Windows(WindowAnswer, WindowAnswer),
-    Refused(u8),
-}
 
 // 2: whether Clahe's work is not 16,384 long.
 fn work_refused(strategy: AutoscaleStrategy, work: usize) -> bool
@@ -242,19 +241,75 @@ fn either_tiles_refused(
     window_tiles_refused(strategy, rows, cols, window2)
 }
 
-// Both windows of a picture, or the number that refuses the call: each number is tested over both bands before the next. Band 1 counts as co-pol.
-pub(crate) fn picture_windows(
+// The windows of two bands whose sides, lengths and marks are accepted, or 4.
+pub(crate) fn both_windows(
+    strategy: AutoscaleStrategy,
+    copol: CoPol,
+    db1: &[f64],
+    valid_mask1: &[u8],
+    db2: &[f64],
+    valid_mask2: &[u8],
+) -> PictureWindows
+    requires { ⌜ (length (now «valid_mask1») ≡ length (now db1)) × (length (now db1) < 2 ^ 32) ⌝ ∗ ⌜ (length (now «valid_mask2») ≡ length (now db2)) × (length (now db2) < 2 ^ 32) ⌝ }
+    ensures { λ r. ⌜ r ≡ bothWindows strategy copol (pixels (now («valid_mask1» .entry)) (now (db1 .entry))) (pixels (now («valid_mask2» .entry)) (now (db2 .entry))) ⌝ }
+{
+    let first = strategies::first_is_copol(copol);
+    let window1 = autoscale::band::band_picture_window(strategy, first, db1, valid_mask1);
+    if let WindowAnswer::Refused(k) = window1 {
+        return PictureWindows::Refused(k);
+    }
+    let second = strategies::second_is_copol(copol);
+    let window2 = autoscale::band::band_picture_window(strategy, second, db2, valid_mask2);
+    if let WindowAnswer::Refused(k) = window2 {
+        return PictureWindows::Refused(k);
+    }
+    PictureWindows::Windows(window1, window2)
+}
+
+// The smallest of the numbers 1 to 3 that applies to two bands by themselves, 0 if none does.
+pub(crate) fn bands_refusal(
     rows: usize,
     cols: usize,
+    db1: &[f64],
+    valid_mask1: &[u8],
+    db2: &[f64],
+    valid_mask2: &[u8],
+) -> u8
+    ensures { λ r. ⌜ r ≡ firstOf 1 (
+        sidesRefused rows cols
+        ∷ (lengthsRefused rows cols (now («valid_mask1» .entry)) (now (db1 .entry)) || lengthsRefused rows cols (now («valid_mask2» .entry)) (now (db2 .entry)))
+        ∷ (marksRefused (now («valid_mask1» .entry)) || marksRefused (now («valid_mask2» .entry))) ∷ []) ⌝ }
+{
+    if raster::sides_refused(rows, cols) {
+        return 1;
+    }
+    if raster::lengths_refused(rows, cols, db1, valid_mask1) {
+        return 2;
+    }
+    if raster::lengths_refused(rows, cols, db2, valid_mask2) {
+        return 2;
+    }
+    if either_marks_refused(valid_mask1, valid_mask2) {
+        return 3;
+    }
+    0
+}
+
+// Both windows of a picture, or the number that refuses the call: each number is tested over both bands before the next.
+pub(crate) fn picture_windows(
+    sides: Sides,
     strategy: AutoscaleStrategy,
+    copol: CoPol,
     db1: &[f64],
     valid_mask1: &[u8],
     db2: &[f64],
     valid_mask2: &[u8],
     lent: Lent,
 ) -> PictureWindows
-    ensures { λ r. ⌜ r ≡ pictureWindows strategy rows cols (now («valid_mask1» .entry)) (now (db1 .entry)) (now («valid_mask2» .entry)) (now (db2 .entry)) lent ⌝ }
+    ensures { λ r. ⌜ r ≡ pictureWindows strategy copol (sides .rows) (sides .cols) (now («valid_mask1» .entry)) (now (db1 .entry)) (now («valid_mask2» .entry)) (now (db2 .entry)) lent ⌝ }
 {
+    let rows = sides.rows;
+    let cols = sides.cols;
     let refusal = picture_refusal(
         rows,
         cols,
@@ -268,16 +323,13 @@ pub(crate) fn picture_windows(
     if refusal != 0 {
         return PictureWindows::Refused(refusal);
     }
-    let window1 = autoscale::band::band_picture_window(strategy, true, db1, valid_mask1);
-    if let WindowAnswer::Refused(k) = window1 {
-        return PictureWindows::Refused(k);
+    match both_windows(strategy, copol, db1, valid_mask1, db2, valid_mask2) {
+        PictureWindows::Refused(k) => PictureWindows::Refused(k),
+        PictureWindows::Windows(window1, window2) => {
+            if either_tiles_refused(strategy, rows, cols, window1, window2) {
+                return PictureWindows::Refused(5);
+            }
+            PictureWindows::Windows(window1, window2)
+        }
     }
-    let window2 = autoscale::band::band_picture_window(strategy, false, db2, valid_mask2);
-    if let WindowAnswer::Refused(k) = window2 {
-        return PictureWindows::Refused(k);
-    }
-    if either_tiles_refused(strategy, rows, cols, window1, window2) {
-        return PictureWindows::Refused(5);
-    }
-    PictureWindows::Windows(window1, window2)
 }

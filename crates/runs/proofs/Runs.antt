@@ -9,6 +9,10 @@ use Rattle.types.specs.declared.AutoscaleStrategy.{AutoscaleStrategy}
 use Rattle.types.specs.declared.Lent.{Lent}
 use Rattle.types.specs.declared.StatisticsAnswer.{StatisticsAnswer}
 use Rattle.types.specs.declared.StatisticsAnswer.the-variants as Stats
+use Rattle.types.specs.declared.CoPol.{CoPol}
+use Rattle.types.specs.declared.PictureChoices.{PictureChoices}
+use Rattle.types.specs.declared.PictureWindows.{PictureWindows}
+use Rattle.types.specs.declared.PictureWindows.the-variants as Both
 use Rattle.types.specs.declared.SyntheticRgbMode.{SyntheticRgbMode}
 use Rattle.types.specs.declared.WindowAnswer.{WindowAnswer}
 use Rattle.types.specs.declared.WindowAnswer.the-variants.{Window, Blank, Refused}
@@ -16,7 +20,8 @@ use Rattle.spec.specs.Altered.{Altered}
 use Rattle.spec.specs.Answer.{Answer, refused, done, orRefused, answer, number, after}
 use Rattle.spec.specs.Colour.{bytesOf}
 use Rattle.spec.specs.Grey.{autoscaleDbImageToU8, autoscaleDbImageToU16}
-use Rattle.spec.specs.Picture.{Picture, syntheticRgbPicture}
+use Rattle.spec.specs.Copol.{TwoWindows, readWindows, syntheticRgbPictureCopol}
+use Rattle.spec.specs.Picture.{Picture, composed}
 use Rattle.spec.specs.Places.{moved}
 use Rattle.spec.specs.Statistics.{readStatistics}
 use Rattle.spec.specs.Curve.{computeHistogram}
@@ -24,7 +29,9 @@ use Rattle.spec.specs.Window.{readWindow}
 use Rattle.demands.specs.GreyOrder.{OutsideClahe, Ranked}
 use Rattle.demands.specs.Reordering.{Reorders, AreF64, movedTriples, MovedBy, same-refusal, both-done}
 use Rattle.runs.specs.Reordered.{MovedBand}
+use Rattle.demands.specs.Copol.{told, otherBand, swappedPicture}
 use Rattle.demands.proofs.Alteration.{alteration}
+use Rattle.demands.proofs.Copol.{copol as copol-laws}
 use Rattle.demands.proofs.GreyOrder.{grey-order}
 use Rattle.demands.proofs.Moved.{order-size}
 use Rattle.demands.proofs.Reordering.{reordering}
@@ -49,6 +56,15 @@ read-window-same Blank (Refused k) e = cc
 read-window-same (Refused k) (Window l′ h′ r′ g′) e = cc
 read-window-same (Refused k) Blank e = cc
 read-window-same (Refused k) (Refused l) e = cc
+
+pub read-windows-same : (a b : PictureWindows) → readWindows a ≡ readWindows b → a ≡ b
+unfolding readWindows
+read-windows-same (Both.Windows v w) (Both.Windows v′ w′) e =
+    let r : _≡_ {A = TwoWindows} (record { first = v; second = w }) (record { first = v′; second = w′ }) = cc in
+    λ i. Both.Windows (r i .first) (r i .second)
+read-windows-same (Both.Windows v w) (Both.Refused k) e = cc
+read-windows-same (Both.Refused k) (Both.Windows v w) e = cc
+read-windows-same (Both.Refused k) (Both.Refused l) e = cc
 
 -- ---- two runs of the call for the bins, likewise
 
@@ -109,17 +125,17 @@ Owed a g1 g2 c r n1 n2 nc = (r ≡ number a) × (n1 ≡ after (λ p. p .grey1) a
 abbrev lentOf : ℕ → ℕ → ℕ → ℕ → Lent
 lentOf g1 g2 c w = record { grey1 = g1; grey2 = g2; rgb = c; work = w }
 
-picture-finished : (strategy : AutoscaleStrategy) (mode : SyntheticRgbMode) (rows cols : ℕ) (m1 : List ℕ) (d1 : List Float) (m2 : List ℕ) (d2 : List Float) (lent : Lent) →
-    number (syntheticRgbPicture strategy mode rows cols m1 d1 m2 d2 lent) ≡ 0 → Finished (syntheticRgbPicture strategy mode rows cols m1 d1 m2 d2 lent)
-unfolding syntheticRgbPicture
-picture-finished strategy mode rows cols m1 d1 m2 d2 lent e = finished _ _ e
+picture-finished : (choices : PictureChoices) (rows cols : ℕ) (m1 : List ℕ) (d1 : List Float) (m2 : List ℕ) (d2 : List Float) (lent : Lent) →
+    number (syntheticRgbPictureCopol choices rows cols m1 d1 m2 d2 lent) ≡ 0 → Finished (syntheticRgbPictureCopol choices rows cols m1 d1 m2 d2 lent)
+unfolding syntheticRgbPictureCopol
+picture-finished choices rows cols m1 d1 m2 d2 lent e = finished _ _ e
 
-pub ranked-picture : (strategy : AutoscaleStrategy) → OutsideClahe strategy → (mode : SyntheticRgbMode) (rows cols : ℕ) (m1 : List ℕ) (d1 : List Float) (m2 : List ℕ) (d2 : List Float)
-    (lent : Lent) (g1 g2 c : List ℕ) (r : ℕ) (n1 n2 nc : List ℕ) → Owed (syntheticRgbPicture strategy mode rows cols m1 d1 m2 d2 lent) g1 g2 c r n1 n2 nc → r ≡ 0 →
+pub ranked-picture : (choices : PictureChoices) → OutsideClahe (choices .strategy) → (rows cols : ℕ) (m1 : List ℕ) (d1 : List Float) (m2 : List ℕ) (d2 : List Float)
+    (lent : Lent) (g1 g2 c : List ℕ) (r : ℕ) (n1 n2 nc : List ℕ) → Owed (syntheticRgbPictureCopol choices rows cols m1 d1 m2 d2 lent) g1 g2 c r n1 n2 nc → r ≡ 0 →
     Ranked m1 d1 n1 × Ranked m2 d2 n2
-ranked-picture strategy n mode rows cols m1 d1 m2 d2 lent g1 g2 c r n1 n2 nc o z =
-    let p = picture-finished strategy mode rows cols m1 d1 m2 d2 lent (sym (o .0) ∙ z) in
-    let h = grey-order .picture strategy n mode rows cols m1 d1 m2 d2 lent (p .result) (p .is) in
+ranked-picture choices n rows cols m1 d1 m2 d2 lent g1 g2 c r n1 n2 nc o z =
+    let p = picture-finished choices rows cols m1 d1 m2 d2 lent (sym (o .0) ∙ z) in
+    let h = grey-order .picture choices n rows cols m1 d1 m2 d2 lent (p .result) (p .is) in
     (subst (Ranked m1 d1) (after-done (λ p. p .grey1) _ _ g1 n1 (p .is) (o .1)) (h .0), subst (Ranked m2 d2) (after-done (λ p. p .grey2) _ _ g2 n2 (p .is) (o .2)) (h .1))
 
 -- equal answers are equal replies and equal lists
@@ -136,15 +152,15 @@ same-owed a a′ e g1 g1′ g2 g2′ c c′ e1 e2 ec r r′ n1 n1′ n2 n2′ nc
     let q3 = o′ .3 in
     (cc, cc, cc, cc)
 
-pub altered-pictures : (strategy : AutoscaleStrategy) (mode : SyntheticRgbMode) (rows cols : ℕ) (m1 : List ℕ) (d1 d1′ : List Float) (m2 : List ℕ) (d2 d2′ : List Float) →
+pub altered-pictures : (choices : PictureChoices) (rows cols : ℕ) (m1 : List ℕ) (d1 d1′ : List Float) (m2 : List ℕ) (d2 d2′ : List Float) →
     Altered m1 d1 d1′ → Altered m2 d2 d2′ → (g1 g1′ g2 g2′ c c′ : List ℕ) (w w′ : ℕ) → g1 ≡ g1′ → g2 ≡ g2′ → c ≡ c′ → w′ ≡ w → (r r′ : ℕ) (n1 n1′ n2 n2′ nc nc′ : List ℕ) →
-    Owed (syntheticRgbPicture strategy mode rows cols m1 d1 m2 d2 (lentOf (length g1) (length g2) (length c) w)) g1 g2 c r n1 n2 nc →
-    Owed (syntheticRgbPicture strategy mode rows cols m1 d1′ m2 d2′ (lentOf (length g1′) (length g2′) (length c′) w′)) g1′ g2′ c′ r′ n1′ n2′ nc′ →
+    Owed (syntheticRgbPictureCopol choices rows cols m1 d1 m2 d2 (lentOf (length g1) (length g2) (length c) w)) g1 g2 c r n1 n2 nc →
+    Owed (syntheticRgbPictureCopol choices rows cols m1 d1′ m2 d2′ (lentOf (length g1′) (length g2′) (length c′) w′)) g1′ g2′ c′ r′ n1′ n2′ nc′ →
     (r ≡ r′) × (n1 ≡ n1′) × (n2 ≡ n2′) × (nc ≡ nc′)
-altered-pictures strategy mode rows cols m1 d1 d1′ m2 d2 d2′ a b g1 g1′ g2 g2′ c c′ w w′ e1 e2 ec ew =
+altered-pictures choices rows cols m1 d1 d1′ m2 d2 d2′ a b g1 g1′ g2 g2′ c c′ w w′ e1 e2 ec ew =
     same-owed _ _
-    (alteration .picture strategy mode rows cols m1 d1 d1′ m2 d2 d2′ (lentOf (length g1) (length g2) (length c) w) a b
-    ∙ (λ i. syntheticRgbPicture strategy mode rows cols m1 d1′ m2 d2′ (lentOf (length (e1 i)) (length (e2 i)) (length (ec i)) (sym ew i))))
+    (alteration .picture choices rows cols m1 d1 d1′ m2 d2 d2′ (lentOf (length g1) (length g2) (length c) w) a b
+    ∙ (λ i. syntheticRgbPictureCopol choices rows cols m1 d1′ m2 d2′ (lentOf (length (e1 i)) (length (e2 i)) (length (ec i)) (sym ew i))))
     g1 g1′ g2 g2′ c c′ e1 e2 ec
 
 -- moved answers are equal replies, and moved lists where the number is 0
@@ -159,17 +175,39 @@ moved-owed ps a a′ (both-done e1 e2 e3) f g1 g2 c g1′ g2′ c′ r r′ n1 n
   λ z. (o′ .1 ∙ e1 ∙ ap (moved 0 ps) (sym (o .1)), o′ .2 ∙ e2 ∙ ap (moved 0 ps) (sym (o .2)), o′ .3 ∙ e3 ∙ ap (movedTriples ps) (sym (o .3))),
 )
 
-pub reordered-pictures : (strategy : AutoscaleStrategy) → Reorders strategy → (mode : SyntheticRgbMode) (rows cols : ℕ) (m1 : List ℕ) (d1 : List Float) (m2 : List ℕ) (d2 : List Float)
+pub reordered-pictures : (choices : PictureChoices) → Reorders (choices .strategy) → (rows cols : ℕ) (m1 : List ℕ) (d1 : List Float) (m2 : List ℕ) (d2 : List Float)
     (m1′ : List ℕ) (d1′ : List Float) (m2′ : List ℕ) (d2′ : List Float) → AreF64 d1 → AreF64 d2 → (ps : List ℕ) → MovedBand ps m1 d1 m1′ d1′ → MovedBand ps m2 d2 m2′ d2′ →
     (k1 k2 kc k1′ k2′ kc′ w w′ : ℕ) → k1 ≡ k1′ → k2 ≡ k2′ → kc ≡ kc′ → w′ ≡ w → (g1 g2 c g1′ g2′ c′ : List ℕ) (r r′ : ℕ) (n1 n2 nc n1′ n2′ nc′ : List ℕ) →
-    Owed (syntheticRgbPicture strategy mode rows cols m1 d1 m2 d2 (lentOf k1 k2 kc w)) g1 g2 c r n1 n2 nc →
-    Owed (syntheticRgbPicture strategy mode rows cols m1′ d1′ m2′ d2′ (lentOf k1′ k2′ kc′ w′)) g1′ g2′ c′ r′ n1′ n2′ nc′ →
+    Owed (syntheticRgbPictureCopol choices rows cols m1 d1 m2 d2 (lentOf k1 k2 kc w)) g1 g2 c r n1 n2 nc →
+    Owed (syntheticRgbPictureCopol choices rows cols m1′ d1′ m2′ d2′ (lentOf k1′ k2′ kc′ w′)) g1′ g2′ c′ r′ n1′ n2′ nc′ →
     (r ≡ r′) × (r ≡ 0 → (n1′ ≡ moved 0 ps n1) × (n2′ ≡ moved 0 ps n2) × (nc′ ≡ movedTriples ps nc))
-reordered-pictures strategy n mode rows cols m1 d1 m2 d2 m1′ d1′ m2′ d2′ f1 f2 ps b1 b2 k1 k2 kc k1′ k2′ kc′ w w′ l1 l2 lc lw =
+reordered-pictures choices n rows cols m1 d1 m2 d2 m1′ d1′ m2′ d2′ f1 f2 ps b1 b2 k1 k2 kc k1′ k2′ kc′ w w′ l1 l2 lc lw =
     let lent = lentOf k1 k2 kc w in
     let size = sym (order-size ps (length m2) (b2 .order)) ∙ order-size ps (length m1) (b1 .order) in
     moved-owed ps _ _
-    (subst (MovedBy ps (syntheticRgbPicture strategy mode rows cols m1 d1 m2 d2 lent))
-    (λ i. syntheticRgbPicture strategy mode rows cols (sym (b1 .marks-moved) i) (sym (b1 .db-moved) i) (sym (b2 .marks-moved) i) (sym (b2 .db-moved) i) (lentOf (l1 i) (l2 i) (lc i) (sym lw i)))
-    (reordering .picture strategy n mode rows cols m1 d1 m2 d2 lent (length m1) refl (b1 .sized) size (b2 .sized ∙ size) f1 f2 ps (b1 .order)))
-    (picture-finished strategy mode rows cols m1 d1 m2 d2 lent)
+    (subst (MovedBy ps (syntheticRgbPictureCopol choices rows cols m1 d1 m2 d2 lent))
+    (λ i. syntheticRgbPictureCopol choices rows cols (sym (b1 .marks-moved) i) (sym (b1 .db-moved) i) (sym (b2 .marks-moved) i) (sym (b2 .db-moved) i) (lentOf (l1 i) (l2 i) (lc i) (sym lw i)))
+    (reordering .picture choices n rows cols m1 d1 m2 d2 lent (length m1) refl (b1 .sized) size (b2 .sized ∙ size) f1 f2 ps (b1 .order)))
+    (picture-finished choices rows cols m1 d1 m2 d2 lent)
+
+-- swapped answers are equal replies, and swapped greys where the number is 0
+swapped-owed : (strategy : AutoscaleStrategy) (a a′ : Answer Picture) → a′ ≡ swappedPicture strategy a → (number a ≡ 0 → Finished a) → (g1 g2 c g1′ g2′ c′ : List ℕ) (r r′ : ℕ)
+    (n1 n2 nc n1′ n2′ nc′ : List ℕ) → Owed a g1 g2 c r n1 n2 nc → Owed a′ g1′ g2′ c′ r′ n1′ n2′ nc′ → (r ≡ r′) × (r ≡ 0 → (n1′ ≡ n2) × (n2′ ≡ n1))
+unfolding number after swappedPicture composed
+swapped-owed strategy (refused k) a′ e f g1 g2 c g1′ g2′ c′ r r′ n1 n2 nc n1′ n2′ nc′ o o′ =
+    (o .0 ∙ sym (o′ .0 ∙ ap number e), λ z. let p = f (sym (o .0) ∙ z) .is in let never : _≡_ {A = ℕ} 0 1 = cc in absurd (omega arith))
+swapped-owed strategy (done p) a′ e f g1 g2 c g1′ g2′ c′ r r′ n1 n2 nc n1′ n2′ nc′ o o′ = (
+  o .0 ∙ sym (o′ .0 ∙ ap number e),
+  λ z. (o′ .1 ∙ ap (λ (b : Answer Picture). after (λ q. q .grey1) b g1′) e ∙ sym (o .2), o′ .2 ∙ ap (λ (b : Answer Picture). after (λ q. q .grey2) b g2′) e ∙ sym (o .1)),
+)
+
+pub swapped-pictures : (strategy : AutoscaleStrategy) (mode : SyntheticRgbMode) (copol other : CoPol) → other ≡ otherBand copol → (rows cols : ℕ) (m1 : List ℕ) (d1 : List Float) (m2 : List ℕ) (d2 : List Float)
+    (k1 k2 kc k1′ k2′ kc′ w w′ : ℕ) → k1 ≡ k2′ → k2 ≡ k1′ → kc ≡ kc′ → w′ ≡ w → (g1 g2 c g1′ g2′ c′ : List ℕ) (r r′ : ℕ) (n1 n2 nc n1′ n2′ nc′ : List ℕ) →
+    Owed (syntheticRgbPictureCopol (told strategy mode copol) rows cols m1 d1 m2 d2 (lentOf k1 k2 kc w)) g1 g2 c r n1 n2 nc →
+    Owed (syntheticRgbPictureCopol (told strategy mode other) rows cols m2 d2 m1 d1 (lentOf k1′ k2′ kc′ w′)) g1′ g2′ c′ r′ n1′ n2′ nc′ →
+    (r ≡ r′) × (r ≡ 0 → (n1′ ≡ n2) × (n2′ ≡ n1))
+swapped-pictures strategy mode copol other e rows cols m1 d1 m2 d2 k1 k2 kc k1′ k2′ kc′ w w′ l1 l2 lc lw =
+    swapped-owed strategy _ _
+    ((λ i. syntheticRgbPictureCopol (told strategy mode (e i)) rows cols m2 d2 m1 d1 (lentOf (sym l2 i) (sym l1 i) (sym lc i) (lw i)))
+    ∙ copol-laws .swapped strategy mode copol rows cols m1 d1 m2 d2 (lentOf k1 k2 kc w))
+    (picture-finished (told strategy mode copol) rows cols m1 d1 m2 d2 (lentOf k1 k2 kc w))

@@ -4,9 +4,11 @@ ghost use Rattle.spec.specs.Altered.{Altered};
 ghost use Rattle.spec.specs.Answer.{replyNumber};
 use crate::Replies;
 use types::AutoscaleStrategy;
+use types::CoPol;
+use types::PictureChoices;
+use types::PictureWindows;
 use types::Sides;
 use types::StatisticsAnswer;
-use types::SyntheticRgbMode;
 use types::WindowAnswer;
 
 // What two runs of the statistics call answer.
@@ -19,6 +21,12 @@ struct StatisticsAnswers {
 struct WindowAnswers {
     first: WindowAnswer,
     second: WindowAnswer,
+}
+
+// What two runs of the call for a picture's windows answer.
+struct PictureWindowsAnswers {
+    first: PictureWindows,
+    second: PictureWindows,
 }
 
 // The statistics call: the same refusal or the same record.
@@ -141,8 +149,7 @@ fn altered_grey_u16(
 // The picture call, either band altered or both: from equal lists the same reply and the same lists.
 fn altered_picture(
     sides: Sides,
-    strategy: AutoscaleStrategy,
-    mode: SyntheticRgbMode,
+    choices: PictureChoices,
     db1: &[f64],
     db1_altered: &[f64],
     valid_mask1: &[u8],
@@ -161,11 +168,10 @@ fn altered_picture(
 {
     let rows = sides.rows;
     let cols = sides.cols;
-    let first = pipeline::synthetic_rgb_picture(
+    let first = pipeline::synthetic_rgb_picture_copol(
         rows,
         cols,
-        strategy,
-        mode,
+        choices,
         db1,
         valid_mask1,
         db2,
@@ -175,11 +181,10 @@ fn altered_picture(
         rgb,
         work,
     );
-    let second = pipeline::synthetic_rgb_picture(
+    let second = pipeline::synthetic_rgb_picture_copol(
         rows,
         cols,
-        strategy,
-        mode,
+        choices,
         db1_altered,
         valid_mask1,
         db2_altered,
@@ -190,4 +195,43 @@ fn altered_picture(
         work,
     );
     Replies { first, second }
+}
+
+// The windows of a picture, either band altered or both: the same refusal or the same windows.
+fn altered_windows(
+    sides: Sides,
+    strategy: AutoscaleStrategy,
+    copol: CoPol,
+    db1: &[f64],
+    db1_altered: &[f64],
+    valid_mask1: &[u8],
+    db2: &[f64],
+    db2_altered: &[f64],
+    valid_mask2: &[u8],
+) -> PictureWindowsAnswers
+    ensures windows { λ r. ⌜ (Altered (now («valid_mask1» .entry)) (now (db1 .entry)) (now («db1_altered» .entry)) → Altered (now («valid_mask2» .entry)) (now (db2 .entry)) (now («db2_altered» .entry)) → r .first ≡ r .second) ⌝ }
+{
+    let rows = sides.rows;
+    let cols = sides.cols;
+    let first = pipeline::synthetic_rgb_windows(
+        rows,
+        cols,
+        strategy,
+        copol,
+        db1,
+        valid_mask1,
+        db2,
+        valid_mask2,
+    );
+    let second = pipeline::synthetic_rgb_windows(
+        rows,
+        cols,
+        strategy,
+        copol,
+        db1_altered,
+        valid_mask1,
+        db2_altered,
+        valid_mask2,
+    );
+    PictureWindowsAnswers { first, second }
 }

@@ -4,9 +4,9 @@ ghost use mathlib.Core.Path.{_≡_};
 ghost use Rattle.spec.specs.Answer.{replyNumber};
 ghost use Rattle.demands.specs.GreyOrder.{OutsideClahe, Ranked};
 use types::AutoscaleStrategy;
+use types::PictureChoices;
 use types::Reply;
 use types::Sides;
-use types::SyntheticRgbMode;
 
 // The grey call at 8 bits: if done, greys in the order of the decibels.
 fn ranked_grey_u8(
@@ -39,8 +39,7 @@ fn ranked_grey_u16(
 // The picture call: if done, the greys of each band in the order of its decibels.
 fn ranked_picture(
     sides: Sides,
-    strategy: AutoscaleStrategy,
-    mode: SyntheticRgbMode,
+    choices: PictureChoices,
     db1: &[f64],
     valid_mask1: &[u8],
     db2: &[f64],
@@ -50,13 +49,12 @@ fn ranked_picture(
     rgb: &mut [u8],
     work: &mut [f64],
 ) -> Reply
-    ensures picture { λ r. ⌜ (OutsideClahe strategy → replyNumber r ≡ 0 → Ranked (now («valid_mask1» .entry)) (now (db1 .entry)) (now (grey1 .exit)) × Ranked (now («valid_mask2» .entry)) (now (db2 .entry)) (now (grey2 .exit))) ⌝ }
+    ensures picture { λ r. ⌜ (OutsideClahe (choices .strategy) → replyNumber r ≡ 0 → Ranked (now («valid_mask1» .entry)) (now (db1 .entry)) (now (grey1 .exit)) × Ranked (now («valid_mask2» .entry)) (now (db2 .entry)) (now (grey2 .exit))) ⌝ }
 {
-    pipeline::synthetic_rgb_picture(
+    pipeline::synthetic_rgb_picture_copol(
         sides.rows,
         sides.cols,
-        strategy,
-        mode,
+        choices,
         db1,
         valid_mask1,
         db2,

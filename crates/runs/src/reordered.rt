@@ -8,15 +8,13 @@ ghost use Rattle.spec.specs.Places.{moved};
 ghost use Rattle.demands.specs.Reordering.{Reorders, movedTriples};
 ghost use Rattle.runs.specs.Reordered.{MovedBand};
 use crate::Replies;
-use types::AutoscaleStrategy;
+use types::PictureChoices;
 use types::Sides;
-use types::SyntheticRgbMode;
 
 // One order moves marks and decibels of both bands; lent lists of equal lengths. The same refusal, or both done: each grey and each colour is moved.
 fn reordered_picture(
     sides: Sides,
-    strategy: AutoscaleStrategy,
-    mode: SyntheticRgbMode,
+    choices: PictureChoices,
     db1: &[f64],
     valid_mask1: &[u8],
     db2: &[f64],
@@ -33,15 +31,14 @@ fn reordered_picture(
     rgb_moved: &mut [u8],
     work: &mut [f64],
 ) -> Replies
-    ensures picture { λ r. ⌜ (Reorders strategy → (ps : List ℕ) → MovedBand ps (now («valid_mask1» .entry)) (now (db1 .entry)) (now («valid_mask1_moved» .entry)) (now («db1_moved» .entry)) → MovedBand ps (now («valid_mask2» .entry)) (now (db2 .entry)) (now («valid_mask2_moved» .entry)) (now («db2_moved» .entry)) → length (now (grey1 .entry)) ≡ length (now («grey1_moved» .entry)) → length (now (grey2 .entry)) ≡ length (now («grey2_moved» .entry)) → length (now (rgb .entry)) ≡ length (now («rgb_moved» .entry)) → (replyNumber (r .first) ≡ replyNumber (r .second)) × (replyNumber (r .first) ≡ 0 → (now («grey1_moved» .exit) ≡ moved 0 ps (now (grey1 .exit))) × (now («grey2_moved» .exit) ≡ moved 0 ps (now (grey2 .exit))) × (now («rgb_moved» .exit) ≡ movedTriples ps (now (rgb .exit))))) ⌝ }
+    ensures picture { λ r. ⌜ (Reorders (choices .strategy) → (ps : List ℕ) → MovedBand ps (now («valid_mask1» .entry)) (now (db1 .entry)) (now («valid_mask1_moved» .entry)) (now («db1_moved» .entry)) → MovedBand ps (now («valid_mask2» .entry)) (now (db2 .entry)) (now («valid_mask2_moved» .entry)) (now («db2_moved» .entry)) → length (now (grey1 .entry)) ≡ length (now («grey1_moved» .entry)) → length (now (grey2 .entry)) ≡ length (now («grey2_moved» .entry)) → length (now (rgb .entry)) ≡ length (now («rgb_moved» .entry)) → (replyNumber (r .first) ≡ replyNumber (r .second)) × (replyNumber (r .first) ≡ 0 → (now («grey1_moved» .exit) ≡ moved 0 ps (now (grey1 .exit))) × (now («grey2_moved» .exit) ≡ moved 0 ps (now (grey2 .exit))) × (now («rgb_moved» .exit) ≡ movedTriples ps (now (rgb .exit))))) ⌝ }
 {
     let rows = sides.rows;
     let cols = sides.cols;
-    let first = pipeline::synthetic_rgb_picture(
+    let first = pipeline::synthetic_rgb_picture_copol(
         rows,
         cols,
-        strategy,
-        mode,
+        choices,
         db1,
         valid_mask1,
         db2,
@@ -51,11 +48,10 @@ fn reordered_picture(
         rgb,
         work,
     );
-    let second = pipeline::synthetic_rgb_picture(
+    let second = pipeline::synthetic_rgb_picture_copol(
         rows,
         cols,
-        strategy,
-        mode,
+        choices,
         db1_moved,
         valid_mask1_moved,
         db2_moved,

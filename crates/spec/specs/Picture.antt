@@ -47,7 +47,7 @@ pictureTests strategy rows cols marks1 db1 marks2 db2 lent px1 px2 =
     ∷ (tilesRefused strategy rows cols px1 || tilesRefused strategy rows cols px2)
     ∷ []
 
--- "band 1 counts as co-pol under Tamed"
+-- the picture call as document 01 has it: "band 1 counts as co-pol under Tamed". The reading of the call that is told no choice (Copol has the other)
 unfoldable pub syntheticRgbPicture : AutoscaleStrategy → SyntheticRgbMode → ℕ → ℕ → List ℕ → List Float → List ℕ → List Float → Lent → Answer Picture
 syntheticRgbPicture strategy mode rows cols marks1 db1 marks2 db2 lent =
     let px1 = pixels marks1 db1 in

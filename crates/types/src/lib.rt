@@ -25,6 +25,19 @@ pub enum SyntheticRgbMode {
     Enhanced,
 }
 
+// "which band is co-pol".
+pub enum CoPol {
+    Band1,
+    Band2,
+}
+
+// What a picture is told beside its bands.
+pub struct PictureChoices {
+    pub strategy: AutoscaleStrategy,
+    pub mode: SyntheticRgbMode,
+    pub copol: CoPol,
+}
+
 // Done, or a number of the table of replies.
 pub enum Reply {
     Done,
@@ -69,6 +82,12 @@ pub enum WindowAnswer {
         gamma: f64,
     },
     Blank,
+    Refused(u8),
+}
+
+// The windows of a picture's two bands, each a window or blank, or the number that refuses the call.
+pub enum PictureWindows {
+    Windows(WindowAnswer, WindowAnswer),
     Refused(u8),
 }
 

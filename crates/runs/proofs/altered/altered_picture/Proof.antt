@@ -8,10 +8,10 @@ returns : tie.Need-returns
 returns c =
     let at-second = c .before .before .before .before .before .before .before .before in
     let at-first = at-second .before .before .before .before .before .before .before .before .before .before .before .before .before in
-    let first = at-first .synthetic-rgb-picture .ensures in
-    let second = at-second .synthetic-rgb-picture2 .ensures in
+    let first = at-first .synthetic-rgb-picture-copol .ensures in
+    let second = at-second .synthetic-rgb-picture-copol2 .ensures in
     λ a b e1 e2 ec.
-    altered-pictures _ _ _ _ _ _ _ _ _ _ a b _ _ _ _ _ _ _ _ e1 e2 ec (first .1 .1 .1 .1 .size) _ _ _ _ _ _ _ _
+    altered-pictures _ _ _ _ _ _ _ _ _ a b _ _ _ _ _ _ _ _ e1 e2 ec (first .1 .1 .1 .1 .size) _ _ _ _ _ _ _ _
     (first .0, first .1 .0, first .1 .1 .0, first .1 .1 .1 .0) (second .0, second .1 .0, second .1 .1 .0, second .1 .1 .1 .0)
 
 pub altered-picture-spec : {M : Type 1} → statement M

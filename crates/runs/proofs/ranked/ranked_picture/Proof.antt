@@ -6,8 +6,8 @@ use Rattle.runs.proofs.ranked.ranked_picture.Tie as tie
 
 returns : tie.Need-returns
 returns c =
-    let run = c .before .before .before .before .before .before .before .before .synthetic-rgb-picture .ensures in
-    λ n. ranked-picture _ n _ _ _ _ _ _ _ _ _ _ _ _ _ _ _ (run .0, run .1 .0, run .1 .1 .0, run .1 .1 .1 .0)
+    let run = c .before .before .before .before .before .before .before .before .synthetic-rgb-picture-copol .ensures in
+    λ n. ranked-picture _ n _ _ _ _ _ _ _ _ _ _ _ _ _ _ (run .0, run .1 .0, run .1 .1 .0, run .1 .1 .1 .0)
 
 pub ranked-picture-spec : {M : Type 1} → statement M
 ranked-picture-spec =

@@ -10,10 +10,10 @@ returns c =
     let at-second = c .before .before .before .before .before .before .before .before in
     let at-first = at-second .before .before .before .before .before .before .before .before .before .before .before .before .before in
     let at-db2 = at-first .before .before .before .before .before .before .before .before .before .before .before .before .before .before .before .before .before in
-    let first = at-first .synthetic-rgb-picture .ensures in
-    let second = at-second .synthetic-rgb-picture2 .ensures in
+    let first = at-first .synthetic-rgb-picture-copol .ensures in
+    let second = at-second .synthetic-rgb-picture-copol2 .ensures in
     λ n ps b1 b2 l1 l2 lc.
-    reordered-pictures _ n _ _ _ _ _ _ _ _ _ _ _ (λ i h. at-db2 .before .before .shared-slice-known .given i) (λ i h. at-db2 .shared-slice-known3 .given i) ps b1 b2
+    reordered-pictures _ n _ _ _ _ _ _ _ _ _ _ (λ i h. at-db2 .before .before .shared-slice-known .given i) (λ i h. at-db2 .shared-slice-known3 .given i) ps b1 b2
     _ _ _ _ _ _ _ _ l1 l2 lc (first .1 .1 .1 .1 .size) _ _ _ _ _ _ _ _ _ _ _ _ _ _
     (first .0, first .1 .0, first .1 .1 .0, first .1 .1 .1 .0) (second .0, second .1 .0, second .1 .1 .0, second .1 .1 .1 .0)
 
