@@ -14,7 +14,7 @@
  *   4    a valid decibel is NaN, infinite, below -1000 or above 1000
  *   5    Clahe with a valid pixel and a side s with 7 * ceil(s / 8) > s
  *   6    16 bits, and the chosen gamma is not 1.0
- *   255  a strategy or a mode that names nothing
+ *   255  a strategy, a mode or a co-pol band that names nothing
  *
  * 255 comes before all others; of 1 to 6 the smallest that applies is answered. n is rows * cols, row by row. Marks are bytes: 1 valid, 0
  * invalid.
@@ -44,6 +44,12 @@ enum quicklook_mode {
     QUICKLOOK_MODE_RGB_RATIO = 1,
     QUICKLOOK_MODE_SAR_URBAN = 2,
     QUICKLOOK_MODE_ENHANCED = 3
+};
+
+/* Which of two bands is co-pol: its number. */
+enum quicklook_copol {
+    QUICKLOOK_COPOL_BAND1 = 1,
+    QUICKLOOK_COPOL_BAND2 = 2
 };
 
 /* The elements of `work` that Clahe needs; the other strategies take any length and leave it alone. */
@@ -88,6 +94,20 @@ uint8_t quicklook_picture(uint8_t strategy, uint8_t mode, size_t rows, size_t co
                           const uint8_t *valid_mask1, size_t valid_mask1_len, const double *db2, size_t db2_len, const uint8_t *valid_mask2,
                           size_t valid_mask2_len, uint8_t *grey1, size_t grey1_len, uint8_t *grey2, size_t grey2_len, uint8_t *rgb,
                           size_t rgb_len, double *work, size_t work_len);
+
+/* The same, told which band is co-pol. That sets the two windows of QUICKLOOK_TAMED and nothing else: red stays band 1's. quicklook_picture is this
+ * call with QUICKLOOK_COPOL_BAND1. Answers 0 to 5, 255. */
+uint8_t quicklook_picture_copol(uint8_t strategy, uint8_t mode, uint8_t copol, size_t rows, size_t cols, const double *db1, size_t db1_len,
+                                const uint8_t *valid_mask1, size_t valid_mask1_len, const double *db2, size_t db2_len,
+                                const uint8_t *valid_mask2, size_t valid_mask2_len, uint8_t *grey1, size_t grey1_len, uint8_t *grey2,
+                                size_t grey2_len, uint8_t *rgb, size_t rgb_len, double *work, size_t work_len);
+
+/* The windows that the picture of two bands is painted with: those of quicklook_window but for QUICKLOOK_TAMED, which has others in a picture.
+ * blank[k] is 1 where no mark of band k + 1 is 1, else 0; floats are low, high, range, gamma of band 1, then of band 2, zeros of a blank one. All four
+ * lists have n elements. Answers 0 to 4, 255. */
+uint8_t quicklook_picture_windows(uint8_t strategy, uint8_t copol, size_t rows, size_t cols, const double *db1, size_t db1_len,
+                                  const uint8_t *valid_mask1, size_t valid_mask1_len, const double *db2, size_t db2_len,
+                                  const uint8_t *valid_mask2, size_t valid_mask2_len, uint8_t blank[2], double floats[8]);
 
 /* The stretch by itself: between the least and the greatest of all elements to 0..255. Equal lengths, at most QUICKLOOK_LONGEST. Answers 0, 2. */
 uint8_t quicklook_stretch(const uint16_t *data, size_t data_len, uint8_t *out, size_t out_len);

@@ -175,6 +175,166 @@ static void picture(void) {
     free(grey1), free(grey2), free(rgb), free(work);
 }
 
+/* Two bands of 100 pixels, and what their picture and its windows are written to. */
+struct two {
+    double *db[2], *work, *floats;
+    uint8_t *mask[2], *grey[2], *rgb, *blank;
+};
+
+static struct two two_bands(void) {
+    struct two t = {.work = lent(3, 8, 0x55), .floats = lent(8, 8, 0x55), .rgb = lent(300, 1, 9), .blank = lent(2, 1, 9)};
+    for (int k = 0; k < 2; k++) {
+        t.db[k] = lent(100, 8, 0), t.mask[k] = lent(100, 1, 1), t.grey[k] = lent(100, 1, 9);
+        for (int i = 0; i < 100; i++) t.db[k][i] = k == 0 ? i : 300.0 - 3.0 * i;
+    }
+    return t;
+}
+
+static void free_two(struct two t) {
+    for (int k = 0; k < 2; k++) free(t.db[k]), free(t.mask[k]), free(t.grey[k]);
+    free(t.work), free(t.floats), free(t.rgb), free(t.blank);
+}
+
+static int paint(struct two t, int strategy, int mode, int copol, size_t rows, size_t cols) {
+    return quicklook_picture_copol(strategy, mode, copol, rows, cols, t.db[0], 100, t.mask[0], 100, t.db[1], 100, t.mask[1], 100, t.grey[0], 100,
+                                   t.grey[1], 100, t.rgb, 300, t.work, 3);
+}
+
+static int unpainted(struct two t) {
+    return all(t.grey[0], 100, 9) && all(t.grey[1], 100, 9) && all(t.rgb, 300, 9) && all(t.work, 24, 0x55);
+}
+
+static int ask_windows(struct two t, int strategy, int copol, size_t rows, size_t cols) {
+    return quicklook_picture_windows(strategy, copol, rows, cols, t.db[0], 100, t.mask[0], 100, t.db[1], 100, t.mask[1], 100, t.blank, t.floats);
+}
+
+static int unanswered(struct two t) {
+    return all(t.blank, 2, 9) && all(t.floats, 64, 0x55);
+}
+
+/* The grey of a decibel in a Tamed picture. */
+static uint8_t tamed(double v, double low, double high) {
+    return (uint8_t)(((v < low ? low : v > high ? high : v) - low) / (high - low) * 255.0);
+}
+
+static void tamed_picture(void) {
+    struct two t = two_bands();
+    double p02[2], p05[2], p99[2];
+    for (int k = 0; k < 2; k++) {
+        uint64_t whole[QUICKLOOK_STATISTICS_WHOLE];
+        double s[QUICKLOOK_STATISTICS_FLOATS];
+        quicklook_statistics(10, 10, t.db[k], 100, t.mask[k], 100, whole, s);
+        p02[k] = s[6], p05[k] = s[7], p99[k] = s[14];
+        check(p02[k] < p05[k], "p02 and p05 apart");
+    }
+    uint8_t greys[2][2][100];
+    for (int copol = QUICKLOOK_COPOL_BAND1; copol <= QUICKLOOK_COPOL_BAND2; copol++) {
+        check(ask_windows(t, QUICKLOOK_TAMED, copol, 10, 10) == 0 && all(t.blank, 2, 0), "windows of a Tamed picture");
+        check(paint(t, QUICKLOOK_TAMED, QUICKLOOK_MODE_SAR_URBAN, copol, 10, 10) == 0 && all(t.work, 24, 0x55), "a Tamed picture");
+        for (int k = 0; k < 2; k++) {
+            double low = copol == k + 1 ? p02[k] : p05[k], *w = t.floats + 4 * k;
+            check(w[0] == low && w[1] == p99[k] && w[2] == p99[k] - low && w[3] == 1.0, "from p02 for the co-pol band, from p05 for the other");
+            int right = 1;
+            for (int i = 0; i < 100; i++) right &= t.grey[k][i] == tamed(t.db[k][i], low, p99[k]);
+            check(right, "greys of a Tamed picture by its windows");
+            memcpy(greys[copol - 1][k], t.grey[k], 100);
+        }
+    }
+    check(memcmp(greys[0][0], greys[1][0], 100) && memcmp(greys[0][1], greys[1][1], 100), "the choice moves the greys of both bands");
+    struct two swapped = t;
+    swapped.db[0] = t.db[1], swapped.db[1] = t.db[0];
+    check(paint(swapped, QUICKLOOK_TAMED, 0, QUICKLOOK_COPOL_BAND2, 10, 10) == 0 && !memcmp(t.grey[0], greys[0][1], 100) &&
+              !memcmp(t.grey[1], greys[0][0], 100),
+          "swapped with the choice, the greys swap");
+    memset(t.mask[0], 0, 100);
+    check(ask_windows(t, QUICKLOOK_TAMED, QUICKLOOK_COPOL_BAND2, 10, 10) == 0 && t.blank[0] == 1 && all(t.floats, 32, 0) && t.blank[1] == 0 &&
+              t.floats[4] == p02[1] && t.floats[5] == p99[1],
+          "a blank band's window");
+    check(paint(t, QUICKLOOK_TAMED, 0, QUICKLOOK_COPOL_BAND2, 10, 10) == 0 && all(t.grey[0], 100, 0) && t.grey[1][0] == 255, "a blank band's greys");
+    free_two(t);
+}
+
+/* The call that is not told has band 1; outside Tamed the choice moves nothing, and the windows are the window call's. */
+static void other_pictures(void) {
+    struct two t = two_bands();
+    uint8_t *grey1 = lent(100, 1, 0), *grey2 = lent(100, 1, 0), *rgb = lent(300, 1, 0);
+    for (int strategy = QUICKLOOK_STANDARD; strategy <= QUICKLOOK_DEFAULT; strategy++) {
+        if (strategy == QUICKLOOK_CLAHE) continue;
+        check(quicklook_picture(strategy, 0, 10, 10, t.db[0], 100, t.mask[0], 100, t.db[1], 100, t.mask[1], 100, grey1, 100, grey2, 100, rgb, 300,
+                                t.work, 3) == 0,
+              "a picture that is not told its co-pol band");
+        for (int copol = QUICKLOOK_COPOL_BAND1; copol <= QUICKLOOK_COPOL_BAND2; copol++) {
+            if (strategy == QUICKLOOK_TAMED && copol == QUICKLOOK_COPOL_BAND2) continue;
+            check(paint(t, strategy, 0, copol, 10, 10) == 0 && !memcmp(t.grey[0], grey1, 100) && !memcmp(t.grey[1], grey2, 100) &&
+                      !memcmp(t.rgb, rgb, 300),
+                  "a picture as if it were not told");
+        }
+        for (int k = 0; k < 2 && strategy != QUICKLOOK_TAMED; k++) {
+            double floats[4];
+            uint8_t blank;
+            check(quicklook_window(strategy, 10, 10, t.db[k], 100, t.mask[k], 100, &blank, floats) == 0 &&
+                      ask_windows(t, strategy, k + 1, 10, 10) == 0 && t.blank[k] == blank && !memcmp(t.floats + 4 * k, floats, sizeof floats),
+                  "a picture's window outside Tamed");
+        }
+    }
+    check(ask_windows(t, QUICKLOOK_CLAHE, 1, 10, 10) == 0 && all(t.blank, 2, 0), "windows of a picture that Clahe does not paint");
+    free(grey1), free(grey2), free(rgb);
+    free_two(t);
+}
+
+/* Both calls that are told the co-pol band refuse alike, and alter nothing. */
+static void told_and_refused(void) {
+    struct two t = two_bands();
+    struct { int strategy, copol; size_t rows, cols; int number; const char *what; } bad[] = {
+        {QUICKLOOK_TAMED, 0, 10, 10, 255, "co-pol band 0"},
+        {QUICKLOOK_TAMED, 3, 10, 10, 255, "co-pol band 3"},
+        {QUICKLOOK_DEFAULT, 255, 10, 10, 255, "co-pol band 255, where the choice moves nothing"},
+        {7, 1, 10, 10, 255, "a strategy that names nothing, with a co-pol band"},
+        {QUICKLOOK_TAMED, 0, 4097, SIZE_MAX, 255, "co-pol band 0, before a side above 4,096"},
+        {QUICKLOOK_TAMED, 1, 4097, 0, 1, "a picture with a side above 4,096"},
+        {QUICKLOOK_TAMED, 2, 0, SIZE_MAX, 1, "a picture with a side of SIZE_MAX"},
+        {QUICKLOOK_TAMED, 2, 10, 9, 2, "a picture of other sides"}};
+    for (size_t i = 0; i < sizeof bad / sizeof *bad; i++) {
+        check(paint(t, bad[i].strategy, 0, bad[i].copol, bad[i].rows, bad[i].cols) == bad[i].number && unpainted(t), bad[i].what);
+        check(ask_windows(t, bad[i].strategy, bad[i].copol, bad[i].rows, bad[i].cols) == bad[i].number && unanswered(t), bad[i].what);
+    }
+    check(paint(t, QUICKLOOK_TAMED, 4, 1, 10, 10) == 255 && unpainted(t), "a mode that names nothing, with a co-pol band");
+    double *tiles = lent(QUICKLOOK_CLAHE_WORK, 8, 0x55);
+    for (int copol = QUICKLOOK_COPOL_BAND1; copol <= QUICKLOOK_COPOL_BAND2; copol++) {
+        for (int list = 0; list < 7; list++) {
+            size_t n[7] = {100, 100, 100, 100, 100, 100, 300};
+            n[list]--;
+            check(quicklook_picture_copol(QUICKLOOK_TAMED, 0, copol, 10, 10, t.db[0], n[0], t.mask[0], n[1], t.db[1], n[2], t.mask[1], n[3],
+                                          t.grey[0], n[4], t.grey[1], n[5], t.rgb, n[6], t.work, 3) == 2 &&
+                      unpainted(t),
+                  "a picture's list one short");
+            if (list > 3) continue;
+            check(quicklook_picture_windows(QUICKLOOK_TAMED, copol, 10, 10, t.db[0], n[0], t.mask[0], n[1], t.db[1], n[2], t.mask[1], n[3], t.blank,
+                                            t.floats) == 2 &&
+                      unanswered(t),
+                  "a windows' list one short");
+        }
+        for (int k = 0; k < 2; k++) {
+            double before = t.db[k][99];
+            t.db[k][99] = NAN;
+            check(paint(t, QUICKLOOK_TAMED, 0, copol, 10, 10) == 4 && unpainted(t), "a picture with a valid NaN");
+            check(ask_windows(t, QUICKLOOK_TAMED, copol, 10, 10) == 4 && unanswered(t), "windows with a valid NaN");
+            t.mask[1 - k][50] = 2;
+            check(paint(t, QUICKLOOK_TAMED, 0, copol, 10, 10) == 3 && unpainted(t), "a picture with a mark of 2 in the other band");
+            check(ask_windows(t, QUICKLOOK_TAMED, copol, 10, 10) == 3 && unanswered(t), "windows with a mark of 2 in the other band");
+            t.mask[1 - k][50] = 1, t.db[k][99] = before;
+        }
+        for (int missing = 0; missing < 2; missing++) {
+            check(quicklook_picture_copol(QUICKLOOK_CLAHE, 0, copol, 10, 10, t.db[0], 100, t.mask[0], 100, t.db[1], 100, t.mask[1], 100,
+                                          t.grey[0], 100, t.grey[1], 100, t.rgb, 300, tiles, QUICKLOOK_CLAHE_WORK - missing) == (missing ? 2 : 5) &&
+                      unpainted(t) && all(tiles, 8 * QUICKLOOK_CLAHE_WORK, 0x55),
+                  "a picture by Clahe on a side of 10, and with work one short");
+        }
+    }
+    free(tiles);
+    free_two(t);
+}
+
 static void beside(void) {
     uint16_t three[3] = {0, 1, 2}, seven[3] = {7, 7, 7};
     uint8_t *out = lent(3, 1, 9);
@@ -219,6 +379,9 @@ int main(void) {
     window();
     grey();
     picture();
+    tamed_picture();
+    other_pictures();
+    told_and_refused();
     beside();
     printf("%d passed, %d failed\n", passed, failed);
     return failed != 0;

@@ -2,11 +2,12 @@
 use mathlib.Core.Path.{_≡_, refl, sym, _∙_}
 use mathlib.Core.Bool.{Bool}
 use mathlib.Core.List.{List}
-use Prim.Native.Nat.{ℕ, suc, _≤_}
+use Prim.Native.Nat.{ℕ, zero, suc, _≤_}
 use native.Mathlib.Omega.{arith}
 use lib.ListN.{List·getD-eq-default}
 use lib.Ieee.{Float}
 use Rattle.types.specs.declared.AutoscaleStrategy.{AutoscaleStrategy}
+use Rattle.types.specs.declared.CoPol.{CoPol}
 use Rattle.types.specs.declared.SyntheticRgbMode.{SyntheticRgbMode}
 use Rattle.spec.specs.Answer.{Answer, refused}
 use Rattle.pipeline.specs.Work.{uses, Kept}
@@ -14,7 +15,9 @@ use Rattle.quicklook.specs.declared.codes.StrategyCode.{StrategyCode}
 use Rattle.quicklook.specs.declared.codes.StrategyCode.the-variants as ByStrategy
 use Rattle.quicklook.specs.declared.codes.ModeCode.{ModeCode}
 use Rattle.quicklook.specs.declared.codes.ModeCode.the-variants as ByMode
-use Rattle.quicklook.specs.Codes.{strategies, modes, strategyOf, modeOf, withStrategy, withMode, usesNamed}
+use Rattle.quicklook.specs.declared.codes.CopolCode.{CopolCode}
+use Rattle.quicklook.specs.declared.codes.CopolCode.the-variants as ByCopol
+use Rattle.quicklook.specs.Codes.{strategies, modes, copols, strategyOf, modeOf, copolOf, withStrategy, withMode, withCopol, usesNamed}
 
 -- a code that is none of the first k is k or more
 pub past : {k n : ℕ} → k ≤ n → (n ≡ k → ⊥) → suc k ≤ n
@@ -27,6 +30,11 @@ no-strategy code h = sym (List·getD-eq-default strategies ByStrategy.Nothing h)
 pub no-mode : (code : ℕ) → 4 ≤ code → ByMode.Nothing ≡ modeOf code
 unfolding modeOf
 no-mode code h = sym (List·getD-eq-default modes ByMode.Nothing h)
+
+pub no-copol : (code : ℕ) → (code ≡ 1 → ⊥) → (code ≡ 2 → ⊥) → ByCopol.Nothing ≡ copolOf code
+unfolding copolOf
+no-copol zero one two = refl
+no-copol (suc code) one two = sym (List·getD-eq-default copols ByCopol.Nothing (past (past (omega arith) one) two))
 
 -- found is what the function gave for the code
 module _ {A : Type 0} (code found : StrategyCode) (call : AutoscaleStrategy → Answer A) (e : found ≡ code) where
@@ -57,3 +65,12 @@ module _ {A : Type 0} (code found : ModeCode) (call : SyntheticRgbMode → Answe
   pub unnamed-mode : found ≡ ByMode.Nothing → withMode code call ≡ refused 255
   unfolding withMode
   unnamed-mode n = rw (sym e ∙ n) refl
+
+module _ {A : Type 0} (code found : CopolCode) (call : CoPol → Answer A) (e : found ≡ code) where
+  pub named-copol : (copol : CoPol) → found ≡ ByCopol.Names copol → withCopol code call ≡ call copol
+  unfolding withCopol
+  named-copol copol n = rw (sym e ∙ n) refl
+
+  pub unnamed-copol : found ≡ ByCopol.Nothing → withCopol code call ≡ refused 255
+  unfolding withCopol
+  unnamed-copol n = rw (sym e ∙ n) refl

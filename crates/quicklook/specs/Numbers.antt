@@ -3,7 +3,11 @@ use Prim.Native.Nat.{ℕ}
 use mathlib.Core.List.{List, [], _∷_}
 use lib.Ieee.{Float}
 use Rattle.types.specs.declared.HistogramStats.{HistogramStats}
+use Rattle.types.specs.declared.WindowAnswer.{WindowAnswer}
+use Rattle.types.specs.declared.WindowAnswer.the-variants.{Window, Blank, Refused}
+use Rattle.types.specs.declared.WindowFloats.{WindowFloats}
 use Rattle.spec.specs.Answer.{Answer, refused, done}
+use Rattle.spec.specs.Copol.{TwoWindows}
 use Rattle.spec.specs.Floats.{zero64}
 
 -- a lent number afterwards, as `after` has it for a list
@@ -29,3 +33,23 @@ blankOf (x ∷ xs) = 0
 unfoldable pub floatsOfWindow : List Float → List Float
 floatsOfWindow [] = zero64 ∷ zero64 ∷ zero64 ∷ zero64 ∷ []
 floatsOfWindow (x ∷ xs) = x ∷ xs
+
+-- document 02, F-2, two windows: 1 for a blank one, else 0; four floats of each, zeros of a blank one
+unfoldable pub blankMark : WindowAnswer → ℕ
+blankMark (Window low high range gamma) = 0
+blankMark Blank = 1
+blankMark (Refused k) = 0
+
+unfoldable pub floatsOrZeros : WindowAnswer → WindowFloats
+floatsOrZeros (Window low high range gamma) = record { low = low; high = high; range = range; gamma = gamma }
+floatsOrZeros Blank = record { low = zero64; high = zero64; range = zero64; gamma = zero64 }
+floatsOrZeros (Refused k) = record { low = zero64; high = zero64; range = zero64; gamma = zero64 }
+
+unfoldable pub blanksOf : TwoWindows → List ℕ
+blanksOf w = blankMark (w .first) ∷ blankMark (w .second) ∷ []
+
+unfoldable pub floatsOfBoth : TwoWindows → List Float
+floatsOfBoth w =
+    let a = floatsOrZeros (w .first) in
+    let b = floatsOrZeros (w .second) in
+    a .low ∷ a .high ∷ a .range ∷ a .gamma ∷ b .low ∷ b .high ∷ b .range ∷ b .gamma ∷ []

@@ -1,7 +1,8 @@
-// The codes of strategies and modes: their places in the order of types.rs.
+// The codes of strategies and modes, their places in the order of types.rs, and of the co-pol band, its number.
 ghost use mathlib.Core.Path.{_≡_};
-ghost use Rattle.quicklook.specs.Codes.{strategyOf, modeOf};
+ghost use Rattle.quicklook.specs.Codes.{strategyOf, modeOf, copolOf};
 use types::AutoscaleStrategy;
+use types::CoPol;
 use types::SyntheticRgbMode;
 
 pub enum StrategyCode {
@@ -11,6 +12,11 @@ pub enum StrategyCode {
 
 pub enum ModeCode {
     Names(SyntheticRgbMode),
+    Nothing,
+}
+
+pub enum CopolCode {
+    Names(CoPol),
     Nothing,
 }
 
@@ -40,5 +46,16 @@ pub(crate) fn mode_of(code: u8) -> ModeCode
         2 => ModeCode::Names(SyntheticRgbMode::SarUrban),
         3 => ModeCode::Names(SyntheticRgbMode::Enhanced),
         _ => ModeCode::Nothing,
+    }
+}
+
+// The co-pol band that a code names.
+pub(crate) fn copol_of(code: u8) -> CopolCode
+    ensures { λ r. ⌜ r ≡ copolOf code ⌝ }
+{
+    match code {
+        1 => CopolCode::Names(CoPol::Band1),
+        2 => CopolCode::Names(CoPol::Band2),
+        _ => CopolCode::Nothing,
     }
 }

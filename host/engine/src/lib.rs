@@ -18,7 +18,7 @@ impl Refusal {
             4 => "a valid decibel is NaN, infinite, below -1000 or above 1000",
             5 => "a side that Clahe's tiles do not fit (7 x ceil(s/8) > s)",
             6 => "16 bits, and the chosen gamma is not 1.0",
-            255 => "a strategy or a mode that names nothing",
+            255 => "a strategy, a mode or a co-pol band that names nothing",
             _ => "a number that the table does not have",
         }
     }
@@ -112,6 +112,41 @@ impl SyntheticRgbMode {
             Self::Enhanced => "enhanced",
         }
     }
+}
+
+/// Which of two bands is co-pol.
+#[derive(Clone, Copy, Debug, PartialEq, Eq)]
+pub enum CoPol {
+    Band1,
+    Band2,
+}
+
+impl CoPol {
+    pub const ALL: [Self; 2] = [Self::Band1, Self::Band2];
+
+    /// The code in the header.
+    pub fn code(self) -> u8 {
+        match self {
+            Self::Band1 => 1,
+            Self::Band2 => 2,
+        }
+    }
+
+    /// The name that results carry.
+    pub fn name(self) -> &'static str {
+        match self {
+            Self::Band1 => "band 1",
+            Self::Band2 => "band 2",
+        }
+    }
+}
+
+/// What a picture is told beside its bands.
+#[derive(Clone, Copy, Debug, PartialEq, Eq)]
+pub struct PictureChoices {
+    pub strategy: AutoscaleStrategy,
+    pub mode: SyntheticRgbMode,
+    pub copol: CoPol,
 }
 
 /// The operations of types.rs.
@@ -242,6 +277,14 @@ pub enum Window {
     Window { low: f64, high: f64, range: f64, gamma: f64 },
 }
 
+impl Window {
+    /// From the mark and the floats as the calls write them.
+    fn from_lent(blank: u8, floats: [f64; 4]) -> Self {
+        let [low, high, range, gamma] = floats;
+        if blank == 1 { Window::Blank } else { Window::Window { low, high, range, gamma } }
+    }
+}
+
 /// One band: decibels and marks.
 #[derive(Clone, Copy)]
 pub struct Band<'a> {
@@ -277,6 +320,16 @@ pub mod c {
             strategy: u8, mode: u8, rows: usize, cols: usize, db1: *const f64, db1_len: usize, valid_mask1: *const u8,
             valid_mask1_len: usize, db2: *const f64, db2_len: usize, valid_mask2: *const u8, valid_mask2_len: usize, grey1: *mut u8,
             grey1_len: usize, grey2: *mut u8, grey2_len: usize, rgb: *mut u8, rgb_len: usize, work: *mut f64, work_len: usize,
+        ) -> u8;
+        pub fn quicklook_picture_copol(
+            strategy: u8, mode: u8, copol: u8, rows: usize, cols: usize, db1: *const f64, db1_len: usize, valid_mask1: *const u8,
+            valid_mask1_len: usize, db2: *const f64, db2_len: usize, valid_mask2: *const u8, valid_mask2_len: usize, grey1: *mut u8,
+            grey1_len: usize, grey2: *mut u8, grey2_len: usize, rgb: *mut u8, rgb_len: usize, work: *mut f64, work_len: usize,
+        ) -> u8;
+        pub fn quicklook_picture_windows(
+            strategy: u8, copol: u8, rows: usize, cols: usize, db1: *const f64, db1_len: usize, valid_mask1: *const u8,
+            valid_mask1_len: usize, db2: *const f64, db2_len: usize, valid_mask2: *const u8, valid_mask2_len: usize, blank: *mut [u8; 2],
+            floats: *mut [f64; 8],
         ) -> u8;
         pub fn quicklook_stretch(data: *const u16, data_len: usize, out: *mut u8, out_len: usize) -> u8;
         pub fn quicklook_compose(
@@ -336,8 +389,7 @@ pub fn window(strategy: AutoscaleStrategy, rows: usize, cols: usize, band: Band)
     let mut blank = 0u8;
     let mut floats = [0f64; 4];
     codes::window(strategy.code(), rows, cols, band, &mut blank, &mut floats)?;
-    let [low, high, range, gamma] = floats;
-    Ok(if blank == 1 { Window::Blank } else { Window::Window { low, high, range, gamma } })
+    Ok(Window::from_lent(blank, floats))
 }
 
 pub fn grey_u8(strategy: AutoscaleStrategy, rows: usize, cols: usize, band: Band, out: &mut [u8], work: &mut [f64]) -> Answer<()> {
@@ -356,10 +408,22 @@ pub struct PictureOut<'a> {
 }
 
 pub fn picture(
-    strategy: AutoscaleStrategy, mode: SyntheticRgbMode, rows: usize, cols: usize, band1: Band, band2: Band, out: PictureOut,
-    work: &mut [f64],
+    choices: PictureChoices, rows: usize, cols: usize, band1: Band, band2: Band, out: PictureOut, work: &mut [f64],
 ) -> Answer<()> {
-    codes::picture(strategy.code(), mode.code(), rows, cols, band1, band2, out, work)
+    let PictureChoices { strategy, mode, copol } = choices;
+    let choices = codes::PictureCodes { strategy: strategy.code(), mode: mode.code(), copol: copol.code() };
+    codes::picture_copol(choices, rows, cols, band1, band2, out, work)
+}
+
+/// The windows that the picture call paints band 1 and band 2 with.
+pub fn picture_windows(
+    strategy: AutoscaleStrategy, copol: CoPol, rows: usize, cols: usize, band1: Band, band2: Band,
+) -> Answer<[Window; 2]> {
+    let mut blank = [0u8; 2];
+    let mut floats = [0f64; 8];
+    codes::picture_windows(strategy.code(), copol.code(), rows, cols, band1, band2, &mut blank, &mut floats)?;
+    let [low1, high1, range1, gamma1, low2, high2, range2, gamma2] = floats;
+    Ok([Window::from_lent(blank[0], [low1, high1, range1, gamma1]), Window::from_lent(blank[1], [low2, high2, range2, gamma2])])
 }
 
 pub fn stretch(data: &[u16], out: &mut [u8]) -> Answer<()> {
@@ -438,6 +502,68 @@ pub mod codes {
         })
     }
 
+    /// What a picture is told beside its bands, by codes.
+    #[derive(Clone, Copy)]
+    pub struct PictureCodes {
+        pub strategy: u8,
+        pub mode: u8,
+        pub copol: u8,
+    }
+
+    pub fn picture_copol(
+        choices: PictureCodes, rows: usize, cols: usize, band1: Band, band2: Band, out: PictureOut, work: &mut [f64],
+    ) -> Answer<()> {
+        call(|| unsafe {
+            c::quicklook_picture_copol(
+                choices.strategy,
+                choices.mode,
+                choices.copol,
+                rows,
+                cols,
+                band1.db.as_ptr(),
+                band1.db.len(),
+                band1.valid_mask.as_ptr(),
+                band1.valid_mask.len(),
+                band2.db.as_ptr(),
+                band2.db.len(),
+                band2.valid_mask.as_ptr(),
+                band2.valid_mask.len(),
+                out.grey1.as_mut_ptr(),
+                out.grey1.len(),
+                out.grey2.as_mut_ptr(),
+                out.grey2.len(),
+                out.rgb.as_mut_ptr(),
+                out.rgb.len(),
+                work.as_mut_ptr(),
+                work.len(),
+            )
+        })
+    }
+
+    pub fn picture_windows(
+        strategy: u8, copol: u8, rows: usize, cols: usize, band1: Band, band2: Band, blank: &mut [u8; 2], floats: &mut [f64; 8],
+    ) -> Answer<()> {
+        call(|| unsafe {
+            c::quicklook_picture_windows(
+                strategy,
+                copol,
+                rows,
+                cols,
+                band1.db.as_ptr(),
+                band1.db.len(),
+                band1.valid_mask.as_ptr(),
+                band1.valid_mask.len(),
+                band2.db.as_ptr(),
+                band2.db.len(),
+                band2.valid_mask.as_ptr(),
+                band2.valid_mask.len(),
+                blank,
+                floats,
+            )
+        })
+    }
+
+    /// The picture call that is not told its co-pol band.
     pub fn picture(
         strategy: u8, mode: u8, rows: usize, cols: usize, band1: Band, band2: Band, out: PictureOut, work: &mut [f64],
     ) -> Answer<()> {
@@ -473,9 +599,36 @@ mod tests {
     use super::*;
 
     #[test]
-    fn every_code_is_its_place() {
+    fn every_code_is_the_headers() {
         assert_eq!(AutoscaleStrategy::ALL.map(AutoscaleStrategy::code), [0, 1, 2, 3, 4, 5, 6]);
         assert_eq!(SyntheticRgbMode::ALL.map(SyntheticRgbMode::code), [0, 1, 2, 3]);
+        assert_eq!(CoPol::ALL.map(CoPol::code), [1, 2]);
+    }
+
+    /// Under Tamed the co-pol band's window begins at p02, the other's at p05; the greys follow.
+    #[test]
+    fn windows_and_greys_go_with_their_band() {
+        let db: [Vec<f64>; 2] = [1.0, 3.0].map(|step| (0..100).map(|k| f64::from(k) * step).collect());
+        let marks = [1u8; 100];
+        let bands = db.each_ref().map(|db| Band { db, valid_mask: &marks });
+        for copol in CoPol::ALL {
+            let windows = picture_windows(AutoscaleStrategy::Tamed, copol, 10, 10, bands[0], bands[1]).unwrap();
+            let (mut grey1, mut grey2, mut rgb) = ([0; 100], [0; 100], [0; 300]);
+            let out = PictureOut { grey1: &mut grey1, grey2: &mut grey2, rgb: &mut rgb };
+            let choices = PictureChoices { strategy: AutoscaleStrategy::Tamed, mode: SyntheticRgbMode::Default, copol };
+            picture(choices, 10, 10, bands[0], bands[1], out, &mut []).unwrap();
+            for (k, (is_copol, greys)) in [(copol == CoPol::Band1, grey1), (copol == CoPol::Band2, grey2)].into_iter().enumerate() {
+                let s = statistics(10, 10, bands[k]).unwrap();
+                let low = if is_copol { s.p02 } else { s.p05 };
+                assert!(s.p02 < s.p05);
+                assert_eq!(windows[k], Window::Window { low, high: s.p99, range: s.p99 - low, gamma: 1.0 });
+                let expected = db[k].iter().map(|v| ((v.max(low).min(s.p99) - low) / (s.p99 - low) * 255.0) as u8);
+                assert!(greys.into_iter().eq(expected), "{copol:?}, band {}", k + 1);
+            }
+        }
+        let blank = Band { db: &db[0], valid_mask: &[0; 100] };
+        let windows = picture_windows(AutoscaleStrategy::Tamed, CoPol::Band2, 10, 10, blank, bands[1]).unwrap();
+        assert!(windows[0] == Window::Blank && windows[1] != Window::Blank);
     }
 
     #[test]

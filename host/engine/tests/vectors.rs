@@ -308,17 +308,70 @@ fn grey<T: Element>(record: &Record, call: Grey<T>) -> Outcome {
     is_work(record, &work)
 }
 
-fn picture(record: &Record) -> Outcome {
-    record.has(8)?;
-    let (db1, marks1) = (record.list::<f64>(0)?, record.list::<u8>(1)?);
-    let (db2, marks2) = (record.list::<f64>(2)?, record.list::<u8>(3)?);
-    let expected: [Vec<u8>; 3] = [record.list(5)?, record.list(6)?, record.list(7)?];
+/// A picture whose bands begin at list `first`, by the call that is told this co-pol band or by the one that is not told.
+fn picture(record: &Record, first: usize, copol: Option<u8>) -> Outcome {
+    record.has(first + 8)?;
+    let (db1, marks1) = (record.list::<f64>(first)?, record.list::<u8>(first + 1)?);
+    let (db2, marks2) = (record.list::<f64>(first + 2)?, record.list::<u8>(first + 3)?);
+    let expected: [Vec<u8>; 3] = [record.list(first + 5)?, record.list(first + 6)?, record.list(first + 7)?];
     let [mut grey1, mut grey2, mut rgb] = expected.each_ref().map(|list| Lent::new(list.len()));
-    let mut work = work_of(record, 4)?;
+    let mut work = work_of(record, first + 4)?;
+    macro_rules! paint {
+        ($call:ident $(, $copol:expr)?) => {
+            c::$call(
+                record.strategy,
+                record.mode,
+                $($copol,)?
+                record.rows,
+                record.cols,
+                db1.as_ptr(),
+                db1.len(),
+                marks1.as_ptr(),
+                marks1.len(),
+                db2.as_ptr(),
+                db2.len(),
+                marks2.as_ptr(),
+                marks2.len(),
+                grey1.ptr(),
+                grey1.len,
+                grey2.ptr(),
+                grey2.len,
+                rgb.ptr(),
+                rgb.len,
+                work.ptr(),
+                work.len,
+            )
+        };
+    }
     record.answers(unsafe {
-        c::quicklook_picture(
+        match copol {
+            None => paint!(quicklook_picture),
+            Some(copol) => paint!(quicklook_picture_copol, copol),
+        }
+    })?;
+    grey1.is("grey 1", &expected[0])?;
+    grey2.is("grey 2", &expected[1])?;
+    rgb.is("colours", &expected[2])?;
+    is_work(record, &work)
+}
+
+/// The co-pol band, which a record gives as its first list.
+fn copol_of(record: &Record) -> Result<u8, String> {
+    match record.list::<u8>(0)?[..] {
+        [copol] => Ok(copol),
+        _ => Err("has not one co-pol band".to_owned()),
+    }
+}
+
+fn picture_windows(record: &Record) -> Outcome {
+    record.has(7)?;
+    let (db1, marks1) = (record.list::<f64>(1)?, record.list::<u8>(2)?);
+    let (db2, marks2) = (record.list::<f64>(3)?, record.list::<u8>(4)?);
+    let (mut blank, mut floats) = (Lent::<u8>::new(2), Lent::<f64>::new(8));
+    record.answers(unsafe {
+        c::quicklook_picture_windows(
             record.strategy,
-            record.mode,
+            copol_of(record)?,
             record.rows,
             record.cols,
             db1.as_ptr(),
@@ -329,20 +382,13 @@ fn picture(record: &Record) -> Outcome {
             db2.len(),
             marks2.as_ptr(),
             marks2.len(),
-            grey1.ptr(),
-            grey1.len,
-            grey2.ptr(),
-            grey2.len,
-            rgb.ptr(),
-            rgb.len,
-            work.ptr(),
-            work.len,
+            blank.ptr().cast(),
+            floats.ptr().cast(),
         )
     })?;
-    grey1.is("grey 1", &expected[0])?;
-    grey2.is("grey 2", &expected[1])?;
-    rgb.is("colours", &expected[2])?;
-    is_work(record, &work)
+    let expected: Vec<u8> = record.list(5)?.into_iter().map(blank_of).collect();
+    blank.is("blank", &expected)?;
+    floats.is_by("floats", &record.list(6)?, as_numbers)
 }
 
 // ---- files
@@ -355,13 +401,16 @@ fn replay(record: &Record, ops: &RangeInclusive<u8>) -> Outcome {
         2 => window(record),
         3 => grey(record, c::quicklook_grey_u8),
         4 => grey(record, c::quicklook_grey_u16),
-        5 => picture(record),
+        // the old call, and the new one by its reading of the old
+        5 => picture(record, 0, None).and_then(|()| picture(record, 0, Some(1))),
         6 => stretch(record),
         7 => compose(record),
         8..=12 => arithmetic(record),
         13 => marks(record),
         14 => pad(record, c::quicklook_pad_u8),
         15 => pad(record, c::quicklook_pad_u16),
+        20 => picture(record, 1, Some(copol_of(record)?)),
+        21 => picture_windows(record),
         op => Err(format!("op {op} names no call")),
     }
 }
@@ -407,4 +456,5 @@ files! {
     replays_grey8: "grey8.bin", 3..=3, 974;
     replays_grey16: "grey16.bin", 4..=4, 945;
     replays_picture: "picture.bin", 5..=5, 759;
+    replays_copol: "copol.bin", 20..=21, 568;
 }
