@@ -2,6 +2,7 @@
 import json
 import os
 import pathlib
+import re
 import resource
 import struct
 import subprocess
@@ -210,6 +211,134 @@ class Files(Case):
             self.assertTrue(os.path.exists(self.at("scene/" + name)), name)
         with Image.open(self.at("scene/default-rgb.png")) as image:
             self.assertEqual(image.size, (64, 64))
+
+
+def percentile(valid, fraction):
+    """Document 01's, off the curve of 4,096 bins."""
+    least, width = valid.min(), (valid.max() - valid.min()) / 4096
+    bins = numpy.minimum(numpy.trunc((valid - least) * (1 / (valid.max() - least)) * 4096), 4095).astype(int)
+    counts = numpy.bincount(bins, minlength=4096)
+    target = min(int(fraction * valid.size), valid.size - 1)
+    bin_ = int(numpy.searchsorted(counts.cumsum(), target, side="right"))
+    return (least + bin_ * width) + (target - counts[:bin_].sum()) / counts[bin_] * width
+
+
+class CoPol(Case):
+    """--copol says which band has the co-pol window of a Tamed picture, and moves nothing else."""
+
+    def greys(self, scene, *words):
+        """Of both bands, and the colours."""
+        outs = ["--out", self.at("c.npy"), "--grey1", self.at("g1.npy"), "--grey2", self.at("g2.npy")]
+        self.done("picture", *scene, *words, *outs)
+        return [numpy.load(self.at(name)) for name in ("g1.npy", "g2.npy", "c.npy")]
+
+    def test_tamed(self):
+        """The windows by NumPy, from p02 for the co-pol band and from p05 for the other; the greys by them; all told in what is written."""
+        scene = self.scene(40, 50)
+        colours = []
+        for copol in (1, 2):
+            words = ("--strategy", "tamed", "--copol", copol)
+            *greys, rgb = self.greys(scene, *words)
+            self.done("picture", *scene, *words, "--out", self.at("c.png"))
+            self.done("picture", *scene, *words, "--out", self.at("c.tif"))
+            with Image.open(self.at("c.png")) as image:
+                self.assertTrue((numpy.array(image) == rgb).all())
+                told = [{name: str(text) for name, text in image.text.items()}, gdal.Open(self.at("c.tif")).GetMetadata()]
+            colours.append(rgb)
+            for band, grey in enumerate(greys, 1):
+                db, marks = (numpy.load(name) for name in scene[2 * band - 2 : 2 * band])
+                low, high = (percentile(db[marks == 1], fraction) for fraction in (0.02 if band == copol else 0.05, 0.99))
+                expected = numpy.where(marks == 1, numpy.trunc((numpy.clip(db, low, high) - low) / (high - low) * 255), 0)
+                self.assertEqual(grey.tolist(), expected.tolist(), (copol, band))
+                for items in told:
+                    self.assertEqual([float(word) for word in items[f"quicklook_window{band}"].split()], [low, high, high - low, 1.0])
+                    self.assertEqual((items["quicklook_copol"], items["quicklook_strategy"]), (f"band {copol}", "tamed"))
+        self.assertFalse((colours[0] == colours[1]).all())
+        self.assertTrue((self.greys(scene, "--strategy", "tamed")[2] == colours[0]).all())
+
+    def test_swapped(self):
+        """Files and choice swapped, the greys swap, also of a raster of two bands; red stays band 1's."""
+        scene = self.scene(40, 50)
+        one = self.greys(scene, "--strategy", "tamed", "--copol", "1")
+        two = self.greys(scene[2:] + scene[:2], "--strategy", "tamed", "--copol", "2")
+        self.assertTrue((one[0] == two[1]).all() and (one[1] == two[0]).all())
+        self.assertFalse((one[2] == two[2]).all())
+        # red follows from the grey of band 1 alone
+        for grey, _, rgb in (one, two):
+            self.assertTrue(all(len(set(rgb[..., 0][grey == level].tolist())) == 1 for level in set(grey.ravel().tolist())))
+        both = gdal.GetDriverByName("GTiff").Create(self.at("both.tif"), 50, 40, 2, gdal.GDT_Float64)
+        for band in (1, 2):
+            db, marks = (numpy.load(name) for name in scene[2 * band - 2 : 2 * band])
+            both.GetRasterBand(band).WriteArray(numpy.where(marks == 1, db, numpy.nan))
+        both = None
+        words = ["--marks", "auto", "--strategy", "tamed", "--copol", "2"]
+        outs = ["--out", self.at("b.npy"), "--grey1", self.at("b1.npy"), "--grey2", self.at("b2.npy")]
+        self.assertEqual(self.run_program("picture", self.at("both.tif"), *words, *outs).returncode, 0)
+        other = self.greys(scene, "--strategy", "tamed", "--copol", "2")
+        self.assertTrue(all((numpy.load(self.at(name)) == grey).all() for name, grey in zip(("b1.npy", "b2.npy", "b.npy"), other)))
+
+    def pages(self, scene, strategy):
+        """The pages of both choices, without what names the choice."""
+        pages = []
+        for copol in "12":
+            self.done("view", *scene, "--strategy", strategy, "--copol", copol, "--out", self.at("p.html"))
+            page = pathlib.Path(self.at("p.html")).read_bytes()
+            self.assertEqual(page.count(f"co-pol band {copol}".encode()), 1)
+            pages.append(re.sub(rb'(co-pol |copol"[:,] ?")band [12]', b"", page))
+        return pages
+
+    def test_other_strategies(self):
+        scene = self.scene()
+        for strategy in STRATEGIES:
+            if strategy == "tamed":
+                self.assertNotEqual(*self.pages(scene, strategy))
+                continue
+            self.assertEqual(*self.pages(scene, strategy), strategy)
+            made = []
+            for words in ((), ("--copol", "1"), ("--copol", "2")):
+                self.greys(scene, "--strategy", strategy, *words)
+                made.append([pathlib.Path(self.at(name)).read_bytes() for name in ("g1.npy", "g2.npy", "c.npy")])
+            self.assertEqual(made, [made[0]] * 3, strategy)
+
+    def test_default(self):
+        """Without the option each output is that of band 1, and says so; a grey of one band has no co-pol band."""
+        scene = self.scene()
+        for out in ("c.png", "c.tif", "page.html"):
+            command = "view" if out == "page.html" else "picture"
+            made = []
+            for words in ((), ("--copol", "1")):
+                self.done(command, *scene, "--strategy", "tamed", *words, "--out", self.at(out))
+                made.append(pathlib.Path(self.at(out)).read_bytes())
+            self.assertEqual(*made)
+            self.assertIn(b"quicklook_copol", made[0])
+        self.done("grey", *scene[:2], "--strategy", "tamed", "--out", self.at("g.png"))
+        with Image.open(self.at("g.png")) as image:
+            self.assertNotIn("quicklook_copol", image.text)
+
+    def test_wrong_use(self):
+        scene = self.scene()
+        before = sorted(os.listdir(self.folder.name))
+        for command, out in (("picture", "c.npy"), ("view", "page.html")):
+            for word in ("0", "3", "12", "-1", "", "band1", "vv"):
+                self.fails(64, "--copol", command, *scene, "--out", self.at(out), f"--copol={word}")
+            self.fails(64, "--copol", command, *scene, "--out", self.at(out), "--copol")
+            self.fails(64, "--copol", command, *scene, "--out", self.at(out), "--copol", "1", "--copol", "2")
+        for words in (("grey", *scene[:2], "--out", self.at("g.npy")), ("window", *scene[:2]), ("compose", *scene[1::2], "--out", self.at("c.npy"))):
+            self.fails(64, "--copol", *words, "--copol", "1")
+        self.assertEqual(sorted(os.listdir(self.folder.name)), before)
+
+    def test_page_of_one_band(self):
+        """It has no band 2 to be co-pol, and is not changed by a band 1 that is."""
+        db, marks, *_ = self.scene()
+        for words in ((db, marks, "--strategy", "tamed"), (db, "--marks", "auto")):
+            self.fails(64, f"{db}: one band, and --copol 2 takes two", "view", *words, "--copol", "2", "--out", self.at("page.html"))
+        self.assertFalse(os.path.exists(self.at("page.html")))
+        pages = []
+        for words in ((), ("--copol", "1")):
+            self.done("view", db, marks, "--strategy", "tamed", *words, "--out", self.at("page.html"))
+            pages.append(pathlib.Path(self.at("page.html")).read_bytes())
+        self.assertEqual(*pages)
+        self.assertNotIn(b"copol", pages[0])
 
 
 class Refusals(Case):

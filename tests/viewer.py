@@ -1,4 +1,5 @@
-"""The deck viewer's page in a real browser: values read back, views, gamma, patches, keyboard. Usage: viewer.py PATH-OF-QUICKLOOK [FOLDER-FOR-SCREENSHOTS]"""
+"""The deck viewer's page in a real browser: values read back, views, gamma, windows, patches, keyboard.
+Usage: viewer.py PATH-OF-QUICKLOOK [FOLDER-FOR-SCREENSHOTS]"""
 import base64
 import io
 import json
@@ -244,6 +245,33 @@ class Page(unittest.TestCase):
                 left, share_ = canvases[k].rect["x"], (bin_ + 0.5) / 4096
                 self.assertAlmostEqual(word.rect["x"] + share_ * word.rect["width"], left + share_ * canvases[k].rect["width"], delta=2)
 
+    def test_copol(self):
+        """The head names the co-pol band; its window is drawn and told from p02 on, the other's from p05, and its greys are the picture's."""
+        bands = ["db1.npy", "marks1.npy", "db2.npy", "marks2.npy", "--strategy", "tamed"]
+        for words, copol in (((), 1), (("--copol", "1"), 1), (("--copol", "2"), 2)):
+            run("view", *bands, *words, "--out", "tamed.html")
+            run("picture", *bands, *words, "--out", "c.npy", "--grey1", "g1.npy", "--grey2", "g2.npy")
+            self.open("tamed.html")
+            self.assertEqual(self.text("about"), f"{ROWS} rows of {COLS}, Tamed, mode Default, co-pol band {copol}")
+            names, words_ = ([cell.text for cell in self.driver.find_elements(By.CSS_SELECTOR, f"#origin {kind}")] for kind in ("dt", "dd"))
+            origin = dict(zip(names, words_))
+            self.assertEqual(origin["copol"], f"band {copol}")
+            captions = [p.text for p in self.driver.find_elements(By.CSS_SELECTOR, "#histograms p")]
+            for k, canvas in enumerate(self.driver.find_elements(By.CSS_SELECTOR, "#histograms canvas")):
+                stats = STATS[k]
+                low, high = stats["p02" if k + 1 == copol else "p05"], stats["p99"]
+                self.assertGreater(stats["p05"] - stats["p02"], 0.1)
+                self.assertIn(f"window from {low:.2f} to {high:.2f} dB, gamma 1.0", captions[k])
+                self.assertEqual([float(word) for word in origin[f"window{k + 1}"].split()], [low, high, high - low, 1.0])
+                # the uprights alone reach the top
+                places = [numpy.floor(512 * (end - stats["min"]) / (stats["max"] - stats["min"]) + 0.5) for end in (low, high)]
+                columns = [int(at) + side for at in places for side in (-1, 0)]
+                self.assertEqual(numpy.flatnonzero(self.drawn(canvas)[0, :, 3]).tolist(), columns, (copol, k + 1))
+            greys = [numpy.load(f"{FOLDER}/g{band}.npy") for band in (1, 2)]
+            for row, col in ((0, 0), (31, 64), (95, 127), (40, 3), (77, 90)):
+                at = self.driver.execute_script("return Quicklook.values(arguments[0], arguments[1])", row, col)
+                self.assertEqual([at["grey1"], at["grey2"]], [int(grey[row, col]) for grey in greys], (copol, row, col))
+
     def test_flat_and_blank(self):
         """A flat band has all in the first column and two names that do not cover each other; a blank one has no curve and no tick."""
         numpy.save(f"{FOLDER}/flat.npy", numpy.full((8, 9), 7.5))
@@ -290,6 +318,7 @@ class Page(unittest.TestCase):
 
     def test_one_band_has_one_curve(self):
         self.open("one.html")
+        self.assertEqual(self.text("about"), f"{ROWS} rows of {COLS}, Robust")
         self.assertEqual([len(self.driver.find_elements(By.CSS_SELECTOR, f"#histograms {name}")) for name in ("canvas", "li")], [1, 2])
 
     def test_strongest_echo(self):

@@ -87,6 +87,7 @@ for crate, texts in code.items():
 print(f'more than eight parameters: {len(many)}: {", ".join(many)}')
 print(f'pub fn: {public}, without a caller outside their crate {len(unused)}: {", ".join(unused)}')
 print(f'contracts that begin with a definition: {clauses}, of another name than the function {len(differ)}: {", ".join(differ)}')
-allowed = {'pipeline::synthetic_rgb_picture 12', 'quicklook::quicklook_picture 12', 'runs::altered_picture 16', 'runs::ranked_picture 11',
-           'runs::reordered_picture 18'}
+allowed = {'pipeline::synthetic_rgb_picture_copol 11', 'pipeline::synthetic_rgb_picture 12', 'quicklook::quicklook_picture 12',
+           'quicklook::quicklook_picture_copol 13', 'quicklook::quicklook_picture_windows 10', 'runs::altered_picture 15', 'runs::altered_windows 9',
+           'runs::ranked_picture 10', 'runs::reordered_picture 17', 'runs::swapped_picture 13'}
 sys.exit(bool(unused or set(many) - allowed))

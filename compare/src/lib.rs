@@ -27,6 +27,13 @@ pub fn mode_of(mode: engine::SyntheticRgbMode) -> oracle::SyntheticRgbMode {
     }
 }
 
+pub fn copol_of(copol: engine::CoPol) -> oracle::CoPol {
+    match copol {
+        engine::CoPol::Band1 => oracle::CoPol::Band1,
+        engine::CoPol::Band2 => oracle::CoPol::Band2,
+    }
+}
+
 pub fn operation_of(operation: engine::PolarizationOperation) -> oracle::PolarizationOperation {
     use engine::PolarizationOperation as Ours;
     use oracle::PolarizationOperation as Theirs;

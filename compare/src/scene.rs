@@ -40,6 +40,8 @@ pub fn decibels(rng: &mut Rng, n: usize) -> Vec<f64> {
             11 => -0.5 - rng.one_of(&[0.0, 2f64.powi(-42), 2f64.powi(-53)]),
             12 => rng.one_of(&[0.0, 2f64.powi(-52), ulps(2f64.powi(-52), -1), ulps(2f64.powi(-52), 1)]),
             13 => rng.one_of(&[0.0, 14.0, 15.0, 40.0, 41.0]) * rng.below(2) as f64,
+            // p02 above p05, where there are pixels enough
+            14 => ulps(512.0, if rng.once_in(100) { rng.one_of(&[0, 3658]) } else { 256 - i64::from(rng.once_in(50)) }),
             _ => base + spread * rng.unit(),
         })
         .collect()

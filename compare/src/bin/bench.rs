@@ -4,7 +4,7 @@
 //! The Rust's inputs (arrays and masks of bool) are made beforehand, outside its times; its outputs are allocated by it, inside them.
 
 use compare::{scene, strategy_of};
-use engine::{AutoscaleStrategy, Band, PictureOut, SyntheticRgbMode};
+use engine::{AutoscaleStrategy, Band, CoPol, PictureChoices, PictureOut, SyntheticRgbMode};
 use ndarray::Array2;
 use random::Rng;
 use sarpro::core::processing::{autoscale, synthetic_rgb};
@@ -56,6 +56,11 @@ fn rust_picture(strategy: AutoscaleStrategy, bands: &[RustBand; 2]) -> (Vec<u8>,
     let rgb =
         synthetic_rgb::create_synthetic_rgb_by_mode_and_strategy(oracle::SyntheticRgbMode::Default, strategy_of(strategy), &grey1, &grey2);
     (grey1, grey2, rgb)
+}
+
+/// What the archive is told where the Rust has band 1 as co-pol.
+fn choices(strategy: AutoscaleStrategy) -> PictureChoices {
+    PictureChoices { strategy, mode: SyntheticRgbMode::Default, copol: CoPol::Band1 }
 }
 
 fn bench(side: usize) {
@@ -124,7 +129,7 @@ fn bench(side: usize) {
     for strategy in AutoscaleStrategy::ALL {
         let mut paint = || {
             let out = PictureOut { grey1: &mut grey1, grey2: &mut grey2, rgb: &mut rgb };
-            engine::picture(strategy, SyntheticRgbMode::Default, side, side, band(0), band(1), black_box(out), &mut work)
+            engine::picture(choices(strategy), side, side, band(0), band(1), black_box(out), &mut work)
         };
         if let Err(refusal) = paint() {
             println!("| picture, {strategy:?} | {side} | | {refusal} | |");
@@ -215,7 +220,7 @@ fn bench_marks(side: usize, alone: bool) {
                 || drop(black_box(rust_picture(strategy, &rust))),
                 || {
                     let out = PictureOut { grey1: &mut grey1, grey2: &mut grey2, rgb: &mut rgb };
-                    engine::picture(strategy, SyntheticRgbMode::Default, side, side, band(0), band(1), black_box(out), &mut work).unwrap()
+                    engine::picture(choices(strategy), side, side, band(0), band(1), black_box(out), &mut work).unwrap()
                 },
             );
         }

@@ -1,8 +1,8 @@
 //! compare SCENES SEED [large]: the archive against the Rust originals on SCENES scenes, every result, refusal and untouched element.
 //! With `large` it goes on to a 4,096 by 4,096 scene in every strategy. The last line is 'N passed, M failed'.
 
-use compare::{mode_of, operation_of, scene, scene::Scene, strategy_of};
-use engine::{AutoscaleStrategy, Band, PictureOut, PolarizationOperation, SyntheticRgbMode, Window};
+use compare::{copol_of, mode_of, operation_of, scene, scene::Scene, strategy_of};
+use engine::{AutoscaleStrategy, Band, CoPol, PictureChoices, PictureOut, PolarizationOperation, SyntheticRgbMode, Window};
 use oracle::{Lent, Sides};
 use random::Rng;
 
@@ -116,6 +116,28 @@ fn windows(tally: &mut Tally, scene: &Scene) {
     }
 }
 
+fn picture_windows(tally: &mut Tally, scene: &Scene) {
+    let (ours, theirs) = bands(scene);
+    let sides = Sides { rows: scene.rows, cols: scene.cols };
+    for mine in AutoscaleStrategy::ALL {
+        for copol in CoPol::ALL {
+            let (mut blank, mut found) = ([9; 2], [0.5; 8]);
+            let (strategy, code) = (mine.code(), copol.code());
+            let answer = engine::codes::picture_windows(strategy, code, scene.rows, scene.cols, ours[0], ours[1], &mut blank, &mut found);
+            let right = match oracle::picture_windows(strategy_of(mine), copol_of(copol), sides, theirs[0], theirs[1]) {
+                Ok(windows) => {
+                    let floats = windows.map(|w| w.map_or([0.0; 4], |w| [w.low, w.high, w.range, w.gamma]));
+                    answer.is_ok()
+                        && blank == windows.map(|w| w.is_none() as u8)
+                        && found.iter().zip(floats.concat()).all(|(&a, b)| same(a, b))
+                }
+                Err(n) => engine_number(&answer) == n && blank == [9; 2] && found == [0.5; 8],
+            };
+            tally.check(right, || format!("windows {mine:?} of a picture, co-pol {}, of {}", copol.name(), describe(scene)));
+        }
+    }
+}
+
 fn greys(tally: &mut Tally, scene: &Scene) {
     let (ours, theirs) = bands(scene);
     let sides = Sides { rows: scene.rows, cols: scene.cols };
@@ -149,43 +171,77 @@ struct Painted {
     work: Vec<f64>,
 }
 
-fn paint(strategy: AutoscaleStrategy, mode: SyntheticRgbMode, scene: &Scene) -> Painted {
+impl Painted {
+    /// The same answer and bytes.
+    fn is(&self, other: &Painted) -> bool {
+        self.number == other.number && self.grey1 == other.grey1 && self.grey2 == other.grey2 && self.rgb == other.rgb
+    }
+}
+
+/// What a picture call answers, and what it leaves of the memory that the scene lends.
+fn painted(scene: &Scene, call: impl FnOnce([Band; 2], PictureOut, &mut [f64]) -> engine::Answer<()>) -> Painted {
     let (ours, _) = bands(scene);
     let [grey1, grey2, rgb, work] = scene.lent;
     let mut p = Painted { number: 0, grey1: bytes(grey1), grey2: bytes(grey2), rgb: bytes(rgb), work: floats(work) };
     let out = PictureOut { grey1: &mut p.grey1, grey2: &mut p.grey2, rgb: &mut p.rgb };
-    let answer = engine::picture(strategy, mode, scene.rows, scene.cols, ours[0], ours[1], out, &mut p.work);
+    let answer = call(ours, out, &mut p.work);
     p.number = engine_number(&answer);
     p
+}
+
+fn paint(choices: PictureChoices, scene: &Scene) -> Painted {
+    painted(scene, |[band1, band2], out, work| engine::picture(choices, scene.rows, scene.cols, band1, band2, out, work))
+}
+
+/// By the call that is not told its co-pol band.
+fn paint_untold(strategy: AutoscaleStrategy, mode: SyntheticRgbMode, scene: &Scene) -> Painted {
+    let (strategy, mode, rows, cols) = (strategy.code(), mode.code(), scene.rows, scene.cols);
+    painted(scene, |[band1, band2], out, work| engine::codes::picture(strategy, mode, rows, cols, band1, band2, out, work))
 }
 
 fn pictures(tally: &mut Tally, rng: &mut Rng, scene: &Scene) {
     let (_, theirs) = bands(scene);
     let sides = Sides { rows: scene.rows, cols: scene.cols };
     let [grey1, grey2, rgb, work] = scene.lent;
-    for mine in AutoscaleStrategy::ALL {
-        let other = strategy_of(mine);
+    for strategy in AutoscaleStrategy::ALL {
         let mode = rng.one_of(&SyntheticRgbMode::ALL);
-        let p = paint(mine, mode, scene);
-        let kept = p.work == floats(work) || (mine == AutoscaleStrategy::Clahe && p.number == 0);
-        let right = match oracle::picture(other, mode_of(mode), sides, theirs[0], theirs[1], Lent { grey1, grey2, rgb, work }) {
-            Ok(e) => p.number == 0 && p.grey1 == e.grey1 && p.grey2 == e.grey2 && p.rgb == e.rgb,
-            Err(n) => p.number == n && p.grey1 == bytes(grey1) && p.grey2 == bytes(grey2) && p.rgb == bytes(rgb),
-        };
-        tally.check(right && kept, || format!("picture {mine:?} {mode:?} of {}", describe(scene)));
-        demand_3(tally, rng, scene, mine, mode, &p);
+        for copol in CoPol::ALL {
+            let (choices, lent) = (PictureChoices { strategy, mode, copol }, Lent { grey1, grey2, rgb, work });
+            let p = paint(choices, scene);
+            let kept = p.work == floats(work) || (strategy == AutoscaleStrategy::Clahe && p.number == 0);
+            let answer = oracle::picture(strategy_of(strategy), mode_of(mode), copol_of(copol), sides, theirs[0], theirs[1], lent);
+            let right = match answer {
+                Ok(e) => p.number == 0 && p.grey1 == e.grey1 && p.grey2 == e.grey2 && p.rgb == e.rgb,
+                Err(n) => p.number == n && p.grey1 == bytes(grey1) && p.grey2 == bytes(grey2) && p.rgb == bytes(rgb),
+            };
+            tally.check(right && kept, || format!("picture {choices:?} of {}", describe(scene)));
+            demand_3(tally, rng, scene, choices, &p);
+            choice(tally, scene, choices, &p);
+        }
+    }
+}
+
+/// F-2 on the built calls: bands and choice swapped, the greys swap; the call that is not told has band 1.
+fn choice(tally: &mut Tally, scene: &Scene, choices: PictureChoices, p: &Painted) {
+    let PictureChoices { strategy, mode, copol } = choices;
+    let other = PictureChoices { copol: if copol == CoPol::Band1 { CoPol::Band2 } else { CoPol::Band1 }, ..choices };
+    let ([db1, db2], [marks1, marks2], [grey1, grey2, rgb, work]) = (scene.db.clone(), scene.marks.clone(), scene.lent);
+    let q = paint(other, &Scene { db: [db2, db1], marks: [marks2, marks1], lent: [grey2, grey1, rgb, work], ..*scene });
+    let right = q.number == p.number && q.grey1 == p.grey2 && q.grey2 == p.grey1;
+    tally.check(right, || format!("swapped picture {choices:?} of {}", describe(scene)));
+    if copol == CoPol::Band1 {
+        tally.check(paint_untold(strategy, mode, scene).is(p), || format!("untold picture {choices:?} of {}", describe(scene)));
     }
 }
 
 /// Demand 3 on the built calls: altered under 0 marks, reordered, and ranked.
-fn demand_3(tally: &mut Tally, rng: &mut Rng, scene: &Scene, strategy: AutoscaleStrategy, mode: SyntheticRgbMode, p: &Painted) {
+fn demand_3(tally: &mut Tally, rng: &mut Rng, scene: &Scene, choices: PictureChoices, p: &Painted) {
+    let strategy = choices.strategy;
     let mut altered = Scene { rows: scene.rows, cols: scene.cols, db: scene.db.clone(), marks: scene.marks.clone(), lent: scene.lent };
     for k in 0..2 {
         scene::garbage(rng, &mut altered.db[k], &scene.marks[k]);
     }
-    let q = paint(strategy, mode, &altered);
-    let right = q.number == p.number && q.grey1 == p.grey1 && q.grey2 == p.grey2 && q.rgb == p.rgb;
-    tally.check(right, || format!("altered picture {strategy:?} of {}", describe(scene)));
+    tally.check(paint(choices, &altered).is(p), || format!("altered picture {choices:?} of {}", describe(scene)));
 
     let len = scene.db[0].len();
     let one_length = [scene.db[1].len(), scene.marks[0].len(), scene.marks[1].len()].iter().all(|&l| l == len);
@@ -198,13 +254,13 @@ fn demand_3(tally: &mut Tally, rng: &mut Rng, scene: &Scene, strategy: Autoscale
             marks: [scene::moved(&places, &scene.marks[0]), scene::moved(&places, &scene.marks[1])],
             lent: scene.lent,
         };
-        let q = paint(strategy, mode, &reordered);
+        let q = paint(choices, &reordered);
         let right = q.number == p.number
             && (p.number != 0
                 || (q.grey1 == scene::moved(&places, &p.grey1)
                     && q.grey2 == scene::moved(&places, &p.grey2)
                     && q.rgb == scene::moved_triples(&places, &p.rgb)));
-        tally.check(right, || format!("reordered picture {strategy:?} of {}", describe(scene)));
+        tally.check(right, || format!("reordered picture {choices:?} of {}", describe(scene)));
     }
 
     if p.number == 0 && strategy != AutoscaleStrategy::Clahe {
@@ -212,7 +268,7 @@ fn demand_3(tally: &mut Tally, rng: &mut Rng, scene: &Scene, strategy: Autoscale
             let mut valid: Vec<usize> = (0..len).filter(|&i| scene.marks[k][i] == 1).collect();
             valid.sort_by(|&i, &j| scene.db[k][i].partial_cmp(&scene.db[k][j]).unwrap());
             let right = valid.windows(2).all(|pair| greys[pair[0]] <= greys[pair[1]]);
-            tally.check(right, || format!("grey order {strategy:?} of {}", describe(scene)));
+            tally.check(right, || format!("grey order {choices:?} of {}", describe(scene)));
         }
     }
 }
@@ -304,23 +360,42 @@ fn codes(tally: &mut Tally) {
         let mut out = bytes(6);
         let answer = engine::codes::compose(0, strategy, &[1, 2], &[3, 4], &mut out);
         tally.check(engine_number(&answer) == 255 && out == bytes(6), || format!("composition code {strategy}"));
-        let (mut grey1, mut grey2, mut rgb) = (bytes(2), bytes(2), bytes(6));
-        let lent = PictureOut { grey1: &mut grey1, grey2: &mut grey2, rgb: &mut rgb };
-        let answer = engine::codes::picture(strategy, 0, 1, 2, band, band, lent, &mut []);
-        tally.check(engine_number(&answer) == 255 && grey1 == bytes(2) && grey2 == bytes(2) && rgb == bytes(6), || {
-            format!("picture code {strategy}")
-        });
     }
     for mode in 4..=255u8 {
         let mut out = bytes(6);
         let answer = engine::codes::compose(mode, 6, &[1, 2], &[3, 4], &mut out);
         tally.check(engine_number(&answer) == 255 && out == bytes(6), || format!("composition mode {mode}"));
-        let (mut grey1, mut grey2, mut rgb) = (bytes(2), bytes(2), bytes(6));
-        let lent = PictureOut { grey1: &mut grey1, grey2: &mut grey2, rgb: &mut rgb };
-        let answer = engine::codes::picture(6, mode, 1, 2, band, band, lent, &mut []);
-        tally.check(engine_number(&answer) == 255 && grey1 == bytes(2) && grey2 == bytes(2) && rgb == bytes(6), || {
-            format!("picture mode {mode}")
-        });
+    }
+    // one code that names nothing beside others that do; every co-pol code; all three
+    let strategies = (7..=255u8).map(|code| (code, 0, 1));
+    let modes = (4..=255u8).map(|code| (5, code, 2));
+    let copols = (0..=255u8).filter(|code| !(1..=2).contains(code)).flat_map(|code| [(5, 0, code), (7, 4, code)]);
+    for (strategy, mode, copol) in strategies.chain(modes).chain(copols) {
+        picture_codes(tally, engine::codes::PictureCodes { strategy, mode, copol }, band);
+    }
+}
+
+/// The calls of a picture to which these codes name nothing: 255, also where the sides are refused, and nothing altered.
+fn picture_codes(tally: &mut Tally, choices: engine::codes::PictureCodes, band: Band) {
+    let engine::codes::PictureCodes { strategy, mode, copol } = choices;
+    for rows in [1, 4_097] {
+        let mut refused = |call: &dyn Fn(PictureOut) -> engine::Answer<()>| {
+            let (mut grey1, mut grey2, mut rgb) = (bytes(2), bytes(2), bytes(6));
+            let answer = call(PictureOut { grey1: &mut grey1, grey2: &mut grey2, rgb: &mut rgb });
+            tally.check(engine_number(&answer) == 255 && grey1 == bytes(2) && grey2 == bytes(2) && rgb == bytes(6), || {
+                format!("picture codes {strategy}, {mode}, {copol} of {rows} rows")
+            });
+        };
+        refused(&|out| engine::codes::picture_copol(choices, rows, 2, band, band, out, &mut []));
+        if strategy > 6 || mode > 3 {
+            refused(&|out| engine::codes::picture(strategy, mode, rows, 2, band, band, out, &mut []));
+        }
+        if strategy > 6 || !(1..=2).contains(&copol) {
+            let (mut blank, mut found) = ([9; 2], [0.5; 8]);
+            let answer = engine::codes::picture_windows(strategy, copol, rows, 2, band, band, &mut blank, &mut found);
+            let right = engine_number(&answer) == 255 && blank == [9; 2] && found == [0.5; 8];
+            tally.check(right, || format!("windows codes {strategy}, {copol} of {rows} rows"));
+        }
     }
 }
 
@@ -333,6 +408,7 @@ fn large(tally: &mut Tally, rng: &mut Rng) {
     let scene = Scene { rows, cols, db: [db1, db2], marks: [marks1, marks2], lent: [n, n, 3 * n, 16_384] };
     statistics(tally, &scene);
     windows(tally, &scene);
+    picture_windows(tally, &scene);
     greys(tally, &scene);
     pictures(tally, rng, &scene);
     let long = vec![1u16; n + 1];
@@ -357,6 +433,7 @@ fn main() {
         }
         statistics(&mut tally, &scene);
         windows(&mut tally, &scene);
+        picture_windows(&mut tally, &scene);
         greys(&mut tally, &scene);
         pictures(&mut tally, &mut rng, &scene);
         lists(&mut tally, &mut rng);

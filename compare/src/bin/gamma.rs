@@ -2,7 +2,7 @@
 //! every f64 within 4,096 of each of the 765 thresholds: at which of them `powf` gives another byte. Prints what docs/DIFFERENCES.md quotes.
 
 use compare::strategy_of;
-use engine::{AutoscaleStrategy, Band, PictureOut, SyntheticRgbMode, Window};
+use engine::{AutoscaleStrategy, Band, CoPol, PictureChoices, PictureOut, SyntheticRgbMode, Window};
 use oracle::{Lent, Sides};
 use random::Rng;
 use std::fs::read_to_string;
@@ -54,11 +54,12 @@ fn scenes(count: usize, seed: u64) {
             done += 1;
             let theirs = [&db, &turned].map(|db| oracle::Band { db, marks: &marks });
             let lent = Lent { grey1: n, grey2: n, rgb: 3 * n, work: 0 };
-            let expected = oracle::picture(strategy_of(strategy), oracle::SyntheticRgbMode::Default, sides, theirs[0], theirs[1], lent)
-                .expect("no refusal");
+            let (mode, copol) = (oracle::SyntheticRgbMode::Default, oracle::CoPol::Band1);
+            let expected = oracle::picture(strategy_of(strategy), mode, copol, sides, theirs[0], theirs[1], lent).expect("no refusal");
             let (mut grey1, mut grey2, mut rgb) = (vec![0; n], vec![0; n], vec![0; 3 * n]);
             let out = PictureOut { grey1: &mut grey1, grey2: &mut grey2, rgb: &mut rgb };
-            engine::picture(strategy, SyntheticRgbMode::Default, SIDE, SIDE, ours[0], ours[1], out, &mut []).expect("no refusal");
+            let choices = PictureChoices { strategy, mode: SyntheticRgbMode::Default, copol: CoPol::Band1 };
+            engine::picture(choices, SIDE, SIDE, ours[0], ours[1], out, &mut []).expect("no refusal");
             greys += unlike(&grey1, &expected.grey1) + unlike(&grey2, &expected.grey2);
             colours += unlike(&rgb, &expected.rgb);
         }

@@ -110,7 +110,7 @@ pub enum Command {
         #[command(flatten)]
         scene: SceneFiles,
         #[command(flatten)]
-        painting: Painting,
+        painting: PicturePainting,
         /// Where the colours go
         #[arg(long)]
         out: PathBuf,
@@ -174,7 +174,7 @@ pub enum Command {
         #[command(flatten)]
         scene: SceneFiles,
         #[command(flatten)]
-        painting: Painting,
+        painting: PicturePainting,
         /// The page's title; by default the names of the decibel files
         #[arg(long)]
         title: Option<String>,
@@ -219,7 +219,7 @@ impl BandFiles {
 /// The files of a scene.
 #[derive(Args)]
 pub struct SceneFiles {
-    /// DB1 MARKS1 DB2 MARKS2, or SCENE MARKS where the scene has two bands; with --marks auto DB1 DB2, or SCENE. Band 1 counts as co-pol.
+    /// DB1 MARKS1 DB2 MARKS2, or SCENE MARKS where the scene has two bands; with --marks auto DB1 DB2, or SCENE.
     /// A page (view) of one band takes DB MARKS, or DB with --marks auto
     #[arg(value_name = "RASTER", num_args = 1..=4, required = true)]
     pub files: Vec<OsString>,
@@ -227,13 +227,29 @@ pub struct SceneFiles {
     pub reading: Reading,
 }
 
-/// How a picture is painted.
+/// How colours are painted.
 #[derive(Args, Clone, Copy)]
 pub struct Painting {
     #[arg(long, value_enum, default_value = "default")]
     pub strategy: Strategy,
     #[arg(long, value_enum, default_value = "default")]
     pub mode: Mode,
+}
+
+/// How the picture of a scene is painted.
+#[derive(Args, Clone, Copy)]
+pub struct PicturePainting {
+    #[command(flatten)]
+    painting: Painting,
+    /// Which band is co-pol, where there are two; it sets the windows of a tamed picture and nothing else: red stays band 1's
+    #[arg(long, value_name = "BAND", value_enum, default_value = "1")]
+    copol: CoPol,
+}
+
+impl From<PicturePainting> for engine::PictureChoices {
+    fn from(PicturePainting { painting: Painting { strategy, mode }, copol }: PicturePainting) -> Self {
+        engine::PictureChoices { strategy: strategy.into(), mode: mode.into(), copol: copol.into() }
+    }
 }
 
 /// The part of a raster that is read, and how.
@@ -367,6 +383,23 @@ impl From<Mode> for engine::SyntheticRgbMode {
             Mode::RgbRatio => Self::RgbRatio,
             Mode::SarUrban => Self::SarUrban,
             Mode::Enhanced => Self::Enhanced,
+        }
+    }
+}
+
+#[derive(Clone, Copy, ValueEnum)]
+pub enum CoPol {
+    #[value(name = "1")]
+    Band1,
+    #[value(name = "2")]
+    Band2,
+}
+
+impl From<CoPol> for engine::CoPol {
+    fn from(copol: CoPol) -> Self {
+        match copol {
+            CoPol::Band1 => Self::Band1,
+            CoPol::Band2 => Self::Band2,
         }
     }
 }

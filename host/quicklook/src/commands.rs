@@ -6,7 +6,7 @@ use crate::elements::Kind;
 use crate::explain;
 use crate::json;
 use crate::memory::{self, Plain};
-use crate::origin::{self, Items, Origin};
+use crate::origin::{self, Items, Origin, Painted};
 use crate::outputs;
 use crate::parts::Parts;
 use crate::progress::{note, step};
@@ -17,7 +17,7 @@ use crate::source::{List, Name, Source};
 use crate::threads;
 use crate::trouble::{Outcome, Trouble};
 use crate::view;
-use engine::{AutoscaleStrategy, PictureOut, PolarizationOperation, Statistics, SyntheticRgbMode, Window};
+use engine::{AutoscaleStrategy, PictureChoices, PictureOut, PolarizationOperation, Statistics, SyntheticRgbMode, Window};
 use serde::{Serialize, Serializer};
 use std::ffi::{OsStr, OsString};
 use std::fs::File;
@@ -36,18 +36,14 @@ pub fn run(command: Command) -> Outcome<()> {
         Command::Histogram { band, json } => histogram(&band, json),
         Command::Window { band, strategy, json } => window(&band, strategy.into(), json),
         Command::Grey { band, strategy, depth, out, form } => grey(&band, strategy.into(), depth, &out, form),
-        Command::Picture { scene, painting: Painting { strategy, mode }, out, grey1, grey2, form } => {
-            picture(&scene, strategy.into(), mode.into(), [Some(out), grey1, grey2], form)
-        }
+        Command::Picture { scene, painting, out, grey1, grey2, form } => picture(&scene, painting.into(), [Some(out), grey1, grey2], form),
         Command::Compose { band1, band2, part, painting: Painting { strategy, mode }, out, form } => {
             compose([&band1, &band2], part, strategy.into(), mode.into(), &out, form)
         }
         Command::Stretch { grey, part, out, form } => stretch(&grey, part, &out, form),
         Command::Pad { grey, part, out, form } => pad(&grey, part, &out, form),
         Command::Op { operation, a, b, part, out, form } => operate(operation.into(), [&a, &b], part, &out, form),
-        Command::View { scene, painting: Painting { strategy, mode }, title, out, force } => {
-            view::run(&scene, strategy.into(), mode.into(), title, (&out, force))
-        }
+        Command::View { scene, painting, title, out, force } => view::run(&scene, painting.into(), title, (&out, force)),
         Command::Demo { folder, side, force } => demo::run(&folder, side, force),
     }
 }
@@ -372,7 +368,7 @@ fn grey(files: &BandFiles, strategy: AutoscaleStrategy, depth: Bits, out: &Path,
                 Bits::Eight => engine::grey_u8(strategy, rows, cols, band, &mut narrow, &mut work),
                 Bits::Sixteen => engine::grey_u16(strategy, rows, cols, band, &mut wide, &mut work),
             },
-            || origin::painted("grey", &scene, strategy, None),
+            || origin::painted("grey", &scene, Painted::Grey(strategy)),
         )
     });
     painted.map_err(|refusal| explain::refused(refusal, &scene, strategy))?;
@@ -386,10 +382,11 @@ fn grey(files: &BandFiles, strategy: AutoscaleStrategy, depth: Bits, out: &Path,
 }
 
 /// The outputs are the colours, the grey of band 1 and the grey of band 2.
-fn picture(files: &SceneFiles, strategy: AutoscaleStrategy, mode: SyntheticRgbMode, outs: [Option<PathBuf>; 3], form: Form) -> Outcome<()> {
+fn picture(files: &SceneFiles, choices: PictureChoices, outs: [Option<PathBuf>; 3], form: Form) -> Outcome<()> {
+    let strategy = choices.strategy;
     let paths: Vec<&Path> = outs.iter().flatten().map(PathBuf::as_path).collect();
     let outs_all = sheet::plan(&paths, false, form)?;
-    let scene = step("reading", || Scene::read(&files.files, Wanted::Two, &files.reading, &outs_all))?;
+    let scene = step("reading", || Scene::read(&files.files, Wanted::Two("a picture"), &files.reading, &outs_all))?;
     let (rows, cols) = (scene.rows, scene.cols);
     let mut grey1 = room::<u8>(rows, cols, 1)?;
     let mut grey2 = room::<u8>(rows, cols, 1)?;
@@ -399,8 +396,8 @@ fn picture(files: &SceneFiles, strategy: AutoscaleStrategy, mode: SyntheticRgbMo
     let (painted, origin) = step("painting", || {
         let lent = PictureOut { grey1: &mut grey1, grey2: &mut grey2, rgb: &mut rgb };
         threads::join(
-            || engine::picture(strategy, mode, rows, cols, band1, band2, lent, &mut work),
-            || origin::painted("picture", &scene, strategy, Some(mode)),
+            || engine::picture(choices, rows, cols, band1, band2, lent, &mut work),
+            || origin::painted("picture", &scene, Painted::Picture(choices)),
         )
     });
     painted.map_err(|refusal| explain::refused(refusal, &scene, strategy))?;

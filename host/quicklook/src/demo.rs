@@ -9,7 +9,7 @@ use crate::parts::Parts;
 use crate::progress::step;
 use crate::sheet::{self, Picture, Sheet};
 use crate::trouble::{Outcome, Trouble};
-use engine::{AutoscaleStrategy, Band, PictureOut, SyntheticRgbMode, Window};
+use engine::{AutoscaleStrategy, Band, CoPol, PictureChoices, PictureOut, SyntheticRgbMode, Window};
 use random::Rng;
 use std::fmt::Write as _;
 use std::path::Path;
@@ -106,7 +106,8 @@ pub fn run(folder: &Path, side: usize, force: bool) -> Outcome<()> {
         let mut work = vec![0f64; strategy.work_len()];
         let lent = PictureOut { grey1: &mut grey1, grey2: &mut grey2, rgb: &mut rgb };
         let name = strategy.name();
-        match step("picture", || engine::picture(strategy, SyntheticRgbMode::Default, side, side, band(0), band(1), lent, &mut work)) {
+        let choices = PictureChoices { strategy, mode: SyntheticRgbMode::Default, copol: CoPol::Band1 };
+        match step("picture", || engine::picture(choices, side, side, band(0), band(1), lent, &mut work)) {
             Ok(()) => {
                 for (kind, picture) in [("rgb", Picture::Rgb(&rgb)), ("grey1", Picture::Grey8(&grey1)), ("grey2", Picture::Grey8(&grey2))] {
                     parts.push(save(&format!("{name}-{kind}.png"), picture)?);

@@ -1,11 +1,12 @@
-//! Where a result came from: program and commit, strategy, windows, and the checksums of the input files. Outputs that can carry it do.
+//! Where a result came from: program and commit, strategy, co-pol band, windows, and the checksums of the input files. Outputs that can carry
+//! it do.
 
 use crate::arguments::VERSION;
 use crate::bytes::{Stamp, open_plain};
 use crate::scene::Scene;
 use crate::threads;
 use crate::trouble::{Outcome, Trouble};
-use engine::{AutoscaleStrategy, SyntheticRgbMode, Window};
+use engine::{Answer, AutoscaleStrategy, PictureChoices, Window};
 use sha2::{Digest, Sha256};
 use std::fs;
 use std::io::{self, Read};
@@ -87,42 +88,45 @@ pub fn items(command: &str, origin: &Origin) -> Outcome<Items> {
     Ok(items)
 }
 
+/// How a scene was painted: each band by itself, or two as a picture.
+#[derive(Clone, Copy)]
+pub enum Painted {
+    Grey(AutoscaleStrategy),
+    Picture(PictureChoices),
+}
+
 /// Of a painted scene.
-pub fn painted(command: &str, scene: &Scene, strategy: AutoscaleStrategy, mode: Option<SyntheticRgbMode>) -> Outcome<Items> {
-    let (items, windows) = threads::join(|| items(command, &scene.origin), || windows(scene, strategy, mode.is_some()));
-    let mut items = items?;
-    items.push(("quicklook_strategy".into(), strategy.name().into()));
-    if let Some(mode) = mode {
-        items.push(("quicklook_mode".into(), mode.name().into()));
+pub fn painted(command: &str, scene: &Scene, how: Painted) -> Outcome<Items> {
+    let (items, windows) = threads::join(|| items(command, &scene.origin), || windows(scene, how));
+    let (mut items, windows) = (items?, windows?);
+    let mut put = |name: &str, words: String| items.push((format!("quicklook_{name}"), words));
+    match how {
+        Painted::Grey(strategy) => put("strategy", strategy.name().into()),
+        Painted::Picture(PictureChoices { strategy, mode, copol }) => {
+            put("strategy", strategy.name().into());
+            put("mode", mode.name().into());
+            put("copol", copol.name().into());
+        }
     }
     for (k, window) in windows.into_iter().enumerate() {
         let words = match window {
-            Some(Window::Window { low, high, range, gamma }) => format!("{low} {high} {range} {gamma}"),
-            Some(Window::Blank) => "blank".into(),
-            None => "refused".into(),
+            Window::Window { low, high, range, gamma } => format!("{low} {high} {range} {gamma}"),
+            Window::Blank => "blank".into(),
         };
-        items.push((format!("quicklook_window{}", k + 1), words));
+        put(&format!("window{}", k + 1), words);
     }
     Ok(items)
 }
 
-/// The windows that the bands were painted from; none of a refused band.
-fn windows(scene: &Scene, strategy: AutoscaleStrategy, of_picture: bool) -> Vec<Option<Window>> {
-    (0..scene.bands.len()).map(|k| painted_window(scene, k, strategy, of_picture)).collect()
-}
-
-/// The window call's, but for a Tamed picture, whose two windows document 01 names by percentiles of the record.
-pub fn painted_window(scene: &Scene, k: usize, strategy: AutoscaleStrategy, of_picture: bool) -> Option<Window> {
-    let band = scene.bands[k].band();
-    if !of_picture || strategy != AutoscaleStrategy::Tamed {
-        return engine::window(strategy, scene.rows, scene.cols, band).ok();
+/// The windows that the bands are painted with.
+pub fn windows(scene: &Scene, how: Painted) -> Answer<Vec<Window>> {
+    let &Scene { rows, cols, ref bands, .. } = scene;
+    match how {
+        Painted::Grey(strategy) => bands.iter().map(|band| engine::window(strategy, rows, cols, band.band())).collect(),
+        Painted::Picture(PictureChoices { strategy, copol, .. }) => {
+            engine::picture_windows(strategy, copol, rows, cols, bands[0].band(), bands[1].band()).map(Vec::from)
+        }
     }
-    let s = engine::statistics(scene.rows, scene.cols, band).ok()?;
-    if s.valid_count == 0 {
-        return Some(Window::Blank);
-    }
-    let low = if k == 0 { s.p02.min(s.p05) } else { s.p05 };
-    Some(Window::Window { low, high: s.p99, range: (s.p99 - low).max(1.0), gamma: 1.0 })
 }
 
 pub fn checksum(path: &Path) -> io::Result<String> {

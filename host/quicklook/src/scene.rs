@@ -18,7 +18,8 @@ use wire::{Georeference, Part};
 #[derive(Clone, Copy, PartialEq, Eq)]
 pub enum Wanted {
     One,
-    Two,
+    /// And what asks for two, in words.
+    Two(&'static str),
     OneOrTwo,
 }
 
@@ -156,11 +157,13 @@ fn open(files: &[OsString], wanted: Wanted, reading: &Reading) -> Outcome<Vec<Op
                 let name = marks.as_ref().map_or("", |marks| marks.shown.as_str());
                 return Err(Trouble::Usage(format!("{name}: 2 bands for the marks of one; name the one, as {name}:{}", db.band())));
             }
-            _ if wanted == Wanted::Two => {
-                let advice = if is_auto { "name a second raster" } else { "name decibels and marks of two bands, DB1 MARKS1 DB2 MARKS2" };
-                return Err(Trouble::Usage(format!("{}: one band, and a picture takes two; {advice}", db.shown)));
+            _ => {
+                if let Wanted::Two(taker) = wanted {
+                    let advice =
+                        if is_auto { "name a second raster" } else { "name decibels and marks of two bands, DB1 MARKS1 DB2 MARKS2" };
+                    return Err(Trouble::Usage(format!("{}: one band, and {taker} takes two; {advice}", db.shown)));
+                }
             }
-            _ => {}
         }
     }
     Ok(opened)

@@ -5,14 +5,14 @@ use crate::commands::room;
 use crate::explain;
 use crate::gdal::Process;
 use crate::json;
-use crate::origin::{self, Items, painted_window};
+use crate::origin::{self, Items, Painted};
 use crate::outputs;
 use crate::parts::Parts;
 use crate::progress::{note, step};
 use crate::scene::{Scene, Wanted};
 use crate::threads;
 use crate::trouble::{Outcome, Trouble};
-use engine::{Answer, AutoscaleStrategy, PictureOut, Statistics, SyntheticRgbMode, Tick, Window};
+use engine::{Answer, CoPol, PictureChoices, PictureOut, Statistics, Tick, Window};
 use flate2::Compression;
 use flate2::write::ZlibEncoder;
 use serde::Serialize;
@@ -31,21 +31,18 @@ struct List {
     bytes: Vec<u8>,
 }
 
-pub fn run(
-    files: &SceneFiles, strategy: AutoscaleStrategy, mode: SyntheticRgbMode, title: Option<String>, (out, force): (&Path, bool),
-) -> Outcome<()> {
+pub fn run(files: &SceneFiles, choices: PictureChoices, title: Option<String>, (out, force): (&Path, bool)) -> Outcome<()> {
     if !matches!(out.extension().and_then(|e| e.to_str()), Some("html" | "htm")) {
         return Err(Trouble::Usage(format!("{}: name a page that ends in .html", out.display())));
     }
     let outs = [out.to_path_buf()];
     outputs::judge(&outs, force)?;
-    let read = step("reading", || Scene::read(&files.files, Wanted::OneOrTwo, &files.reading, &outs))?;
+    let wanted = if choices.copol == CoPol::Band2 { Wanted::Two("--copol 2") } else { Wanted::OneOrTwo };
+    let read = step("reading", || Scene::read(&files.files, wanted, &files.reading, &outs))?;
     let (rows, cols) = (read.rows, read.cols);
-    let refused = |refusal| explain::refused(refusal, &read, strategy);
-    let (painted, origin) = step("painting", || {
-        let is_picture = read.bands.len() == 2;
-        threads::join(|| paint(strategy, mode, &read), || origin::painted("view", &read, strategy, is_picture.then_some(mode)))
-    });
+    let how = if read.bands.len() == 1 { Painted::Grey(choices.strategy) } else { Painted::Picture(choices) };
+    let refused = |refusal| explain::refused(refusal, &read, choices.strategy);
+    let (painted, origin) = step("painting", || threads::join(|| paint(choices, &read), || origin::painted("view", &read, how)));
     let (first, rest) = painted?.map_err(refused)?;
     let origin = origin?;
     let title = title.unwrap_or_else(|| {
@@ -54,7 +51,7 @@ pub fn run(
         names.join(" and ")
     });
     let block_rows = (1usize << 20).div_ceil(cols.max(1)).min(rows.max(1));
-    let described = step("statistics", || describe(&title, strategy, mode, &read, &origin, block_rows)).map_err(refused)?;
+    let described = step("statistics", || describe(&title, how, &read, &origin, block_rows)).map_err(refused)?;
     let scene = Described { ground: ground(&read.georeference, rows, cols)?, ..described };
     step("packing", || {
         let page = Parts::fill(out, force, |file| {
@@ -86,8 +83,9 @@ fn name_of(shown: &str) -> String {
 }
 
 /// The lists of the page as the engine gives them: the one shown first, and the others.
-fn paint(strategy: AutoscaleStrategy, mode: SyntheticRgbMode, scene: &Scene) -> Outcome<Answer<(List, Vec<List>)>> {
+fn paint(choices: PictureChoices, scene: &Scene) -> Outcome<Answer<(List, Vec<List>)>> {
     let &Scene { rows, cols, ref bands, .. } = scene;
+    let strategy = choices.strategy;
     let mut work = vec![0f64; strategy.work_len()];
     let mut grey1 = room::<u8>(rows, cols, 1)?;
     let list = |name: String, width: usize, bytes: Vec<u8>| List { name, width, bytes };
@@ -102,7 +100,7 @@ fn paint(strategy: AutoscaleStrategy, mode: SyntheticRgbMode, scene: &Scene) -> 
             let mut grey2 = room::<u8>(rows, cols, 1)?;
             let mut rgb = room::<u8>(rows, cols, 3)?;
             let lent = PictureOut { grey1: &mut grey1, grey2: &mut grey2, rgb: &mut rgb };
-            if let Err(refusal) = engine::picture(strategy, mode, rows, cols, one.band(), two.band(), lent, &mut work) {
+            if let Err(refusal) = engine::picture(choices, rows, cols, one.band(), two.band(), lent, &mut work) {
                 return Ok(Err(refusal));
             }
             (list("rgb".into(), 3, rgb), vec![list("grey1".into(), 1, grey1), list("grey2".into(), 1, grey2)])
@@ -210,19 +208,19 @@ struct Ground {
     places: Vec<f64>,
 }
 
-fn describe<'a>(
-    title: &'a str, strategy: AutoscaleStrategy, mode: SyntheticRgbMode, scene: &Scene, origin: &'a Items, block_rows: usize,
-) -> Answer<Described<'a>> {
+fn describe<'a>(title: &'a str, how: Painted, scene: &Scene, origin: &'a Items, block_rows: usize) -> Answer<Described<'a>> {
     let &Scene { rows, cols, ref bands, .. } = scene;
     let statistics = bands.iter().map(|band| engine::statistics(rows, cols, band.band())).collect::<Answer<Vec<_>>>()?;
     let curves = bands.iter().map(|band| engine::histogram(rows, cols, band.band())).collect::<Answer<Vec<_>>>()?;
-    let windows = (0..bands.len()).map(|k| match painted_window(scene, k, strategy, bands.len() == 2) {
-        Some(Window::Window { low, high, gamma, .. }) => Some(Ends { low, high, gamma }),
-        Some(Window::Blank) | None => None,
+    let windows = origin::windows(scene, how)?.into_iter().map(|window| match window {
+        Window::Window { low, high, gamma, .. } => Some(Ends { low, high, gamma }),
+        Window::Blank => None,
     });
-    let about = match bands.len() {
-        1 => format!("{rows} rows of {cols}, {strategy:?}"),
-        _ => format!("{rows} rows of {cols}, {strategy:?}, mode {mode:?}"),
+    let about = match how {
+        Painted::Grey(strategy) => format!("{rows} rows of {cols}, {strategy:?}"),
+        Painted::Picture(PictureChoices { strategy, mode, copol }) => {
+            format!("{rows} rows of {cols}, {strategy:?}, mode {mode:?}, co-pol {}", copol.name())
+        }
     };
     Ok(Described {
         title,

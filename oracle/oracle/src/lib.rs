@@ -18,6 +18,15 @@ pub const OPERATIONS: [PolarizationOperation; 5] = [
     PolarizationOperation::LogRatio,
 ];
 
+/// Which band of a picture is co-pol: F-2 of document 02. The Rust is told of each band whether it is.
+#[derive(Clone, Copy, Debug, PartialEq)]
+pub enum CoPol {
+    Band1,
+    Band2,
+}
+
+pub const COPOLS: [CoPol; 2] = [CoPol::Band1, CoPol::Band2];
+
 /// What a call gives, or a refusal's number.
 pub type Answer<T> = Result<T, u8>;
 
@@ -147,9 +156,11 @@ pub fn marks(data: &[f32], out: usize) -> Answer<Vec<u8>> {
     Ok(rust::marks(data))
 }
 
-/// Document 01's chaining: both bands to U8, Tamed by the function for synRGB with band 1 as co-pol and without the stretch, then the
-/// colours of the two grey outputs.
-pub fn picture(strategy: AutoscaleStrategy, mode: SyntheticRgbMode, sides: Sides, band1: Band, band2: Band, lent: Lent) -> Answer<Picture> {
+/// Document 01's chaining: both bands to U8, Tamed by the function for synRGB, told which band is co-pol, and without the stretch, then the
+/// colours of the two grey outputs. Document 01's own picture has band 1 as co-pol.
+pub fn picture(
+    strategy: AutoscaleStrategy, mode: SyntheticRgbMode, copol: CoPol, sides: Sides, band1: Band, band2: Band, lent: Lent,
+) -> Answer<Picture> {
     let n = table::count(sides);
     table::first(&[
         table::too_wide(sides),
@@ -164,12 +175,26 @@ pub fn picture(strategy: AutoscaleStrategy, mode: SyntheticRgbMode, sides: Sides
         table::bad_tiles(strategy, sides, band1.marks) || table::bad_tiles(strategy, sides, band2.marks),
     ])?;
     let (grey1, grey2) = if strategy == Tamed {
-        (rust::tamed_synrgb_u8(true, sides, band1), rust::tamed_synrgb_u8(false, sides, band2))
+        (rust::tamed_synrgb_u8(copol == CoPol::Band1, sides, band1), rust::tamed_synrgb_u8(copol == CoPol::Band2, sides, band2))
     } else {
         (rust::grey_u8(strategy, sides, band1).0, rust::grey_u8(strategy, sides, band2).0)
     };
     let rgb = rust::composition(mode, strategy, &grey1, &grey2);
     Ok(Picture { grey1, grey2, rgb })
+}
+
+/// The windows that a picture's bands are painted with; None is blank.
+pub fn picture_windows(strategy: AutoscaleStrategy, copol: CoPol, sides: Sides, band1: Band, band2: Band) -> Answer<[Option<Window>; 2]> {
+    table::first(&[
+        table::too_wide(sides),
+        table::band_unlike(sides, band1) || table::band_unlike(sides, band2),
+        table::bad_mark(band1.marks) || table::bad_mark(band2.marks),
+        table::bad_decibel(band1) || table::bad_decibel(band2),
+    ])?;
+    Ok([(band1, CoPol::Band1), (band2, CoPol::Band2)].map(|(band, own)| match strategy {
+        Tamed => rust::tamed_synrgb_window(copol == own, sides, band),
+        _ => rust::window(strategy, band).0,
+    }))
 }
 
 /// Clahe's parts on a band that is normalised already: equalised pixels before they are held to 0..1, and 64 × 256 tile sums.

@@ -3,7 +3,7 @@ use std::fmt::Display;
 use std::io::{self, BufRead, BufWriter, Write};
 use std::str::SplitAsciiWhitespace;
 
-use oracle::{Answer, Band, Lent, MODES, OPERATIONS, STRATEGIES, Sides};
+use oracle::{Answer, Band, CoPol, Lent, MODES, OPERATIONS, STRATEGIES, Sides, Window};
 
 /// An element of a list: numbers in decimal, floats as the hexadecimal digits of their bits.
 trait Element: Sized {
@@ -60,6 +60,15 @@ impl Fields<'_> {
         word.parse().map_err(|_| format!("not a number: {word}"))
     }
 
+    /// The co-pol band: 1 or 2.
+    fn copol(&mut self) -> Result<CoPol, String> {
+        match self.number()? {
+            1 => Ok(CoPol::Band1),
+            2 => Ok(CoPol::Band2),
+            other => Err(format!("no such band: {other}")),
+        }
+    }
+
     fn sides(&mut self) -> Result<Sides, String> {
         Ok(Sides { rows: self.number()?, cols: self.number()? })
     }
@@ -94,6 +103,10 @@ fn reply<T>(answer: Answer<T>, done: impl FnOnce(T) -> String) -> String {
     }
 }
 
+fn window(window: Option<Window>) -> String {
+    window.map_or("blank".to_string(), |w| show(&[w.low, w.high, w.range, w.gamma]))
+}
+
 fn one<T: Element>(answer: Answer<Vec<T>>) -> String {
     reply(answer, |list| format!("done {}", show(&list)))
 }
@@ -110,7 +123,7 @@ fn answer(line: &str) -> Result<String, String> {
         "window" => {
             let (strategy, sides, db, marks) = (f.named(&STRATEGIES)?, f.sides()?, f.list()?, f.list()?);
             let answer = oracle::window(strategy, sides, Band { db: &db, marks: &marks });
-            reply(answer, |w| w.map_or("blank".to_string(), |w| format!("done {}", show(&[w.low, w.high, w.range, w.gamma]))))
+            reply(answer, |w| format!("{}{}", if w.is_some() { "done " } else { "" }, window(w)))
         }
         "grey8" => {
             let (strategy, sides, db, marks) = (f.named(&STRATEGIES)?, f.sides()?, f.list()?, f.list()?);
@@ -125,12 +138,18 @@ fn answer(line: &str) -> Result<String, String> {
             one(oracle::tamed_synrgb_u8(pol == "copol", sides, Band { db: &db, marks: &marks }))
         }
         "picture" => {
-            let (strategy, mode, sides) = (f.named(&STRATEGIES)?, f.named(&MODES)?, f.sides()?);
+            let (strategy, mode, copol, sides) = (f.named(&STRATEGIES)?, f.named(&MODES)?, f.copol()?, f.sides()?);
             let (db1, marks1, db2, marks2) = (f.list()?, f.list()?, f.list()?, f.list()?);
             let lent = Lent { grey1: f.number()?, grey2: f.number()?, rgb: f.number()?, work: f.number()? };
             let (band1, band2) = (Band { db: &db1, marks: &marks1 }, Band { db: &db2, marks: &marks2 });
-            let answer = oracle::picture(strategy, mode, sides, band1, band2, lent);
+            let answer = oracle::picture(strategy, mode, copol, sides, band1, band2, lent);
             reply(answer, |p| format!("done {} {} {}", show(&p.grey1), show(&p.grey2), show(&p.rgb)))
+        }
+        "windows" => {
+            let (strategy, copol, sides) = (f.named(&STRATEGIES)?, f.copol()?, f.sides()?);
+            let (db1, marks1, db2, marks2) = (f.list()?, f.list()?, f.list()?, f.list()?);
+            let (band1, band2) = (Band { db: &db1, marks: &marks1 }, Band { db: &db2, marks: &marks2 });
+            reply(oracle::picture_windows(strategy, copol, sides, band1, band2), |[w1, w2]| format!("done {} {}", window(w1), window(w2)))
         }
         "stretch" => one(oracle::stretch(&f.list::<u16>()?, f.number()?)),
         "composition" => {

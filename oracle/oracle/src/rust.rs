@@ -87,6 +87,13 @@ pub fn tamed_synrgb_u8(is_copol: bool, sides: Sides, band: Band) -> Vec<u8> {
     autoscale::autoscale_db_image_tamed_synrgb_u8(&array(sides, band.db), &mask(band.marks), is_copol)
 }
 
+/// The window of `tamed_synrgb_u8`, which shows it to nobody: by its source, from the Rust's statistics.
+pub fn tamed_synrgb_window(is_copol: bool, sides: Sides, band: Band) -> Option<Window> {
+    let Statistics { valid_count, floats: [_, _, _, _, _, _, p02, p05, .., p99] } = statistics(sides, band);
+    let low = if is_copol { p02.min(p05) } else { p05 };
+    (valid_count > 0).then_some(Window { low, high: p99, range: (p99 - low).max(1.0), gamma: 1.0 })
+}
+
 pub fn scale_u16_to_u8(data: &[u16]) -> Vec<u8> {
     autoscale::scale_u16_to_u8(data)
 }

@@ -1,6 +1,6 @@
 //! The picture against its parts, the windows against the statistics, and refusals over both bands.
 use oracle::AutoscaleStrategy::{Adaptive, Clahe, Default, Equalized, Robust, Standard, Tamed};
-use oracle::{Answer, AutoscaleStrategy, Band, Lent, MODES, Picture, STRATEGIES, Sides, SyntheticRgbMode};
+use oracle::{Answer, AutoscaleStrategy, Band, COPOLS, CoPol, Lent, MODES, Picture, STRATEGIES, Sides, SyntheticRgbMode, Window};
 use random::Rng;
 
 /// A scene of its own for each seed: values spread around -15 dB, every tenth pixel invalid with NaN under its mark.
@@ -22,7 +22,7 @@ fn lent(sides: Sides) -> Lent {
 }
 
 fn picture(strategy: AutoscaleStrategy, mode: SyntheticRgbMode, sides: Sides, bands: [Band; 2]) -> Answer<Picture> {
-    oracle::picture(strategy, mode, sides, bands[0], bands[1], lent(sides))
+    oracle::picture(strategy, mode, CoPol::Band1, sides, bands[0], bands[1], lent(sides))
 }
 
 #[test]
@@ -46,6 +46,58 @@ fn picture_is_its_parts() {
             }
         }
     }
+}
+
+/// Told which band is co-pol: Tamed's greys are the Rust's for it, and follow from the windows; other strategies do not look; swapped with their
+/// choice, bands and windows swap. No refusal depends on the choice.
+#[test]
+fn picture_of_either_copol_band() {
+    let repainted = |band: Band, window: Option<Window>| -> Vec<u8> {
+        let grey = |v: f64, w: Window| ((v.max(w.low).min(w.high) - w.low) / w.range * 255.0).clamp(0.0, 255.0) as u8;
+        band.db.iter().zip(band.marks).map(|(&v, &mark)| window.filter(|_| mark == 1).map_or(0, |w| grey(v, w))).collect()
+    };
+    let other = |copol| if copol == CoPol::Band1 { CoPol::Band2 } else { CoPol::Band1 };
+    let mut unlike = 0;
+    for seed in 0..60 {
+        let sides = [Sides { rows: 8, cols: 15 }, Sides { rows: 43, cols: 7 }][seed as usize % 2];
+        let n = sides.rows * sides.cols;
+        let (db1, mut marks1) = scene(seed, n, 5.0 + 0.2 * seed as f64);
+        let (db2, marks2) = scene(seed + 1000, n, 35.0);
+        if seed % 10 == 9 {
+            marks1.fill(0);
+        }
+        let (band1, band2) = (Band { db: &db1, marks: &marks1 }, Band { db: &db2, marks: &marks2 });
+        for strategy in STRATEGIES {
+            let both = COPOLS.map(|copol| {
+                let told = oracle::picture(strategy, MODES[0], copol, sides, band1, band2, lent(sides)).unwrap();
+                let windows = oracle::picture_windows(strategy, copol, sides, band1, band2).unwrap();
+                let swapped = oracle::picture(strategy, MODES[0], other(copol), sides, band2, band1, lent(sides)).unwrap();
+                assert_eq!((&swapped.grey1, &swapped.grey2), (&told.grey2, &told.grey1));
+                let [w1, w2] = windows;
+                assert_eq!(oracle::picture_windows(strategy, other(copol), sides, band2, band1), Ok([w2, w1]));
+                if strategy == Tamed {
+                    let [is1, is2] = [copol == CoPol::Band1, copol == CoPol::Band2];
+                    assert_eq!(Ok(&told.grey1), oracle::tamed_synrgb_u8(is1, sides, band1).as_ref());
+                    assert_eq!(Ok(&told.grey2), oracle::tamed_synrgb_u8(is2, sides, band2).as_ref());
+                    assert_eq!((repainted(band1, w1), repainted(band2, w2)), (told.grey1.clone(), told.grey2.clone()));
+                } else {
+                    assert_eq!(windows, [band1, band2].map(|band| oracle::window(strategy, sides, band).unwrap()));
+                }
+                (told, windows)
+            });
+            assert!(strategy == Tamed || both[0] == both[1]);
+            unlike += usize::from(both[0].0.grey1 != both[1].0.grey1 && both[0].0.grey2 != both[1].0.grey2);
+        }
+        let mut marked = marks2.clone();
+        marked[0] = 2;
+        let bad = Band { db: &db2, marks: &marked };
+        for copol in COPOLS {
+            assert_eq!(oracle::picture(Tamed, MODES[0], copol, sides, band1, bad, lent(sides)), Err(3));
+            assert_eq!(oracle::picture_windows(Tamed, copol, sides, bad, band1), Err(3));
+            assert_eq!(oracle::picture_windows(Tamed, copol, sides, Band { db: &db1[1..], marks: &marks1 }, bad), Err(2));
+        }
+    }
+    assert!(unlike > 50, "{unlike}");
 }
 
 /// low and high are the percentiles that document 01 names, gamma is the strategy's.
@@ -114,7 +166,7 @@ fn smallest_number_over_both_bands() {
     assert_eq!(oracle::grey_u16(Standard, sides, gamma, 64, 0), Err(6));
     assert_eq!(oracle::grey_u16(Standard, sides, gamma, 63, 0), Err(2));
     let wide = Sides { rows: 4097, cols: 0 };
-    assert_eq!(oracle::picture(Standard, SyntheticRgbMode::Default, wide, good, good, lent(wide)), Err(1));
+    assert_eq!(picture(Standard, SyntheticRgbMode::Default, wide, [good, good]), Err(1));
 }
 
 /// A side that 5 refuses is refused with a valid pixel and accepted without one; the window call does not know 5.

@@ -163,6 +163,11 @@ pub fn inverted_tamed() -> Scene {
     close(28, 11, 2075, 76, 77)
 }
 
+/// p02 above p05: in a picture Tamed's low is p05 for the co-pol band too.
+pub fn inverted_copol() -> Scene {
+    close(20, 10, 3658, 255, 4)
+}
+
 /// By whole decibels: Standard's margin of 0.02 of the spread passes p02.
 pub fn inverted_standard() -> Scene {
     let db: Vec<f64> = [-1000.0].into_iter().chain((0..49).map(|k| 970.0 + 30.0 * f64::from(k) / 48.0)).collect();

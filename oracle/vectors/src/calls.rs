@@ -1,7 +1,7 @@
 //! One function for each call: asks the oracle and adds the record. The op codes are these functions' first numbers.
-use oracle::{AutoscaleStrategy, Band, Lent, OPERATIONS, PolarizationOperation, Sides, SyntheticRgbMode};
+use oracle::{Answer, AutoscaleStrategy, Band, CoPol, Lent, OPERATIONS, Picture, PolarizationOperation, Sides, SyntheticRgbMode, Window};
 
-use crate::record::{Part, Record};
+use crate::record::{Part, Record, copol_code};
 
 /// One band with its sides, right or wrong.
 #[derive(Clone, Debug)]
@@ -40,14 +40,15 @@ pub fn statistics(part: &mut Part, scene: &Scene) {
 }
 
 /// The kind is 1 for a window, 0 for a blank one, whose floats are written as 0.
+fn kind_and_floats(window: Option<Window>) -> (u8, [f64; 4]) {
+    window.map_or((0, [0.0; 4]), |w| (1, [w.low, w.high, w.range, w.gamma]))
+}
+
 pub fn window(part: &mut Part, strategy: AutoscaleStrategy, scene: &Scene) {
     let answer = oracle::window(strategy, scene.sides, scene.band());
-    let given = answer.as_ref().ok().map(|w| match w {
-        Some(w) => ([1u8], [w.low, w.high, w.range, w.gamma]),
-        None => ([0u8], [0.0; 4]),
-    });
+    let given = answer.ok().map(kind_and_floats);
     let record = Record::new(2).strategy(strategy).sides(scene.sides).reply(&answer).list(&scene.db).list(&scene.marks);
-    part.add(record.out(given.as_ref().map(|g| &g.0[..]), 1).out(given.as_ref().map(|g| &g.1[..]), 4));
+    part.add(record.out(given.as_ref().map(|g| std::slice::from_ref(&g.0)), 1).out(given.as_ref().map(|g| &g.1[..]), 4));
 }
 
 pub fn grey8(part: &mut Part, strategy: AutoscaleStrategy, scene: &Scene, out: usize, work: usize) {
@@ -64,12 +65,34 @@ pub fn grey16(part: &mut Part, strategy: AutoscaleStrategy, scene: &Scene, out: 
 
 /// The sides are the first scene's.
 pub fn picture(part: &mut Part, strategy: AutoscaleStrategy, mode: SyntheticRgbMode, band1: &Scene, band2: &Scene, lent: Lent) {
-    let answer = oracle::picture(strategy, mode, band1.sides, band1.band(), band2.band(), lent);
+    let answer = oracle::picture(strategy, mode, CoPol::Band1, band1.sides, band1.band(), band2.band(), lent);
+    add_picture(part, Record::new(5).strategy(strategy).mode(mode), answer, band1, band2, lent);
+}
+
+/// Told which band is co-pol.
+pub fn picture_copol(
+    part: &mut Part, strategy: AutoscaleStrategy, mode: SyntheticRgbMode, copol: CoPol, band1: &Scene, band2: &Scene, lent: Lent,
+) {
+    let answer = oracle::picture(strategy, mode, copol, band1.sides, band1.band(), band2.band(), lent);
+    add_picture(part, Record::new(20).strategy(strategy).mode(mode).list(&[copol_code(copol)]), answer, band1, band2, lent);
+}
+
+fn add_picture(part: &mut Part, record: Record, answer: Answer<Picture>, band1: &Scene, band2: &Scene, lent: Lent) {
     let given = answer.as_ref().ok();
-    let record = Record::new(5).strategy(strategy).mode(mode).sides(band1.sides).reply(&answer);
+    let record = record.sides(band1.sides).reply(&answer);
     let record = record.list(&band1.db).list(&band1.marks).list(&band2.db).list(&band2.marks).list(&[lent.work as u32]);
     let record = record.out(given.map(|p| &p.grey1[..]), lent.grey1).out(given.map(|p| &p.grey2[..]), lent.grey2);
     part.add(record.out(given.map(|p| &p.rgb[..]), lent.rgb));
+}
+
+/// The windows of a picture: two kinds, then the floats of band 1 and of band 2.
+pub fn picture_windows(part: &mut Part, strategy: AutoscaleStrategy, copol: CoPol, band1: &Scene, band2: &Scene) {
+    let answer = oracle::picture_windows(strategy, copol, band1.sides, band1.band(), band2.band());
+    let given = answer.ok().map(|windows| windows.map(kind_and_floats));
+    let (kinds, floats) = (given.map(|two| two.map(|(kind, _)| kind)), given.map(|two| two.map(|(_, floats)| floats).concat()));
+    let record = Record::new(21).strategy(strategy).sides(band1.sides).reply(&answer).list(&[copol_code(copol)]);
+    let record = record.list(&band1.db).list(&band1.marks).list(&band2.db).list(&band2.marks);
+    part.add(record.out(kinds.as_ref().map(|k| &k[..]), 2).out(floats.as_deref(), 8));
 }
 
 pub fn stretch(part: &mut Part, data: &[u16], out: usize) {

@@ -3,6 +3,7 @@ mod bands;
 mod beside;
 mod calls;
 mod compose;
+mod copol;
 mod numeric;
 mod pictures;
 mod record;
@@ -33,6 +34,7 @@ fn parts() -> Vec<Part> {
         bands::grey16_part(&mut rng(9)),
         pictures::pictures(&mut rng(10)),
         tiles::clahe(&mut rng(11)),
+        copol::copol(&mut rng(12)),
     ]
 }
 

@@ -11,7 +11,7 @@ use crate::record::Part;
 const WORK: usize = oracle::table::CLAHE_WORK;
 
 /// What a picture call with these sides is to be lent.
-fn named(scene: &Scene) -> Lent {
+pub fn named(scene: &Scene) -> Lent {
     let n = scene.count();
     Lent { grey1: n, grey2: n, rgb: 3 * n, work: WORK }
 }

@@ -1,7 +1,7 @@
 //! Records of a vector file. README.md has the layout.
 use std::collections::HashSet;
 
-use oracle::{Answer, AutoscaleStrategy, Sides, SyntheticRgbMode};
+use oracle::{Answer, AutoscaleStrategy, CoPol, Sides, SyntheticRgbMode};
 
 /// No list is longer, so that a program without a heap can read every record.
 pub const LONGEST: usize = 4_096;
@@ -52,6 +52,14 @@ pub fn strategy_code(strategy: AutoscaleStrategy) -> u8 {
         AutoscaleStrategy::Clahe => 4,
         AutoscaleStrategy::Tamed => 5,
         AutoscaleStrategy::Default => 6,
+    }
+}
+
+/// A co-pol band's code: its number.
+pub fn copol_code(copol: CoPol) -> u8 {
+    match copol {
+        CoPol::Band1 => 1,
+        CoPol::Band2 => 2,
     }
 }
 

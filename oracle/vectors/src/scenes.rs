@@ -5,7 +5,7 @@ use std::path::Path;
 use std::{fs, io};
 
 use oracle::AutoscaleStrategy::{Adaptive, Clahe, Default, Equalized, Robust, Standard, Tamed};
-use oracle::{Answer, AutoscaleStrategy, Lent, MODES, PolarizationOperation, STRATEGIES, Sides, SyntheticRgbMode};
+use oracle::{Answer, AutoscaleStrategy, CoPol, Lent, MODES, PolarizationOperation, STRATEGIES, Sides, SyntheticRgbMode};
 use random::Rng;
 
 use crate::bands::{self, random};
@@ -153,7 +153,7 @@ impl File {
     }
 
     fn picture(&mut self, strategy: AutoscaleStrategy, mode: SyntheticRgbMode, band1: &Scene, band2: &Scene, lent: Lent) {
-        let given = oracle::picture(strategy, mode, band1.sides, band1.band(), band2.band(), lent);
+        let given = oracle::picture(strategy, mode, CoPol::Band1, band1.sides, band1.band(), band2.band(), lent);
         let expected = answer(given, |p| numbers([p.grey1, p.grey2, p.rgb].concat()));
         let Lent { grey1, grey2, rgb, work } = lent;
         let got = format!(
@@ -223,7 +223,8 @@ fn pictures(rng: &mut Rng) -> File {
     let mut f = File::new("Pictures", "Pictures of small scenes, refusals over both bands.");
     let named = Lent { grey1: 6, grey2: 6, rgb: 18, work: WORK };
     // bands that every strategy but Clahe paints
-    let painted = |strategy, a: &Scene, b: &Scene| oracle::picture(strategy, MODES[0], a.sides, a.band(), b.band(), named).is_ok();
+    let painted =
+        |strategy, a: &Scene, b: &Scene| oracle::picture(strategy, MODES[0], CoPol::Band1, a.sides, a.band(), b.band(), named).is_ok();
     let (band1, band2) = loop {
         let (a, b) = (random(rng, 2, 3, -14.0, 13.0, 1), random(rng, 2, 3, -21.0, 12.0, 1));
         if painted(Standard, &a, &b) && painted(Adaptive, &a, &b) {
