@@ -95,10 +95,18 @@ class Limits(Case):
             self.assertEqual(self.bytes_of(names), new)
 
     def test_stack(self):
-        """The program brings its own."""
-        for kilobytes in (16, 64, 1024):
-            self.done(*self.words("npy"), preexec_fn=limit(resource.RLIMIT_STACK, kilobytes << 10))
+        """The program brings its own. For the first thread it raises a low limit; where it may not, it says so and never ends by a signal."""
+        for soft, hard in ((16, 1024), (64, 64), (1024, 1024)):
+            kilobytes = (soft << 10, hard << 10)
+            self.done(*self.words("npy"), preexec_fn=lambda: resource.setrlimit(resource.RLIMIT_STACK, kilobytes))
         self.done(*self.words("npy"), environment={"RUST_MIN_STACK": "1", "RAYON_NUM_THREADS": "100000"})
+        for kilobytes in [16] * 20 + [63]:
+            before = self.snapshot()
+            result = self.run_(*self.words("npy"), preexec_fn=limit(resource.RLIMIT_STACK, kilobytes << 10))
+            self.assertIn(result.returncode, (0, 71), (kilobytes, result.stderr))
+            if result.returncode:
+                self.assertIn(f"65536 bytes of stack are wanted, and the limit is {kilobytes << 10}", result.stderr.decode())
+                self.assertEqual(self.snapshot(), before)
 
     def test_processes(self):
         self.put_earlier(FORMATS["tif"])

@@ -35,6 +35,7 @@ use std::process::ExitCode;
 use trouble::{INTERNAL_STATUS, Outcome, Trouble};
 
 fn main() -> ExitCode {
+    memory::first_stack();
     signals::start();
     rights::start();
     panic::set_hook(Box::new(|what| note(&format!("internal error, nothing is written: {what}"))));

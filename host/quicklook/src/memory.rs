@@ -43,16 +43,40 @@ fn there(memory: *mut u8, size: usize) -> *mut u8 {
     memory
 }
 
-/// Ends the program for want of so many bytes. Asks for none.
+/// Ends the program for want of so many bytes.
 pub fn end(wanted: usize) -> ! {
+    end_saying(format_args!("{wanted} bytes of memory are wanted, and there are none"))
+}
+
+/// Ends the program for want of memory. Asks for none.
+fn end_saying(what: std::fmt::Arguments) -> ! {
     if !signals::is_done() {
         let mut text = [0u8; 120];
         let mut rest = &mut text[..];
-        let _ = writeln!(rest, "quicklook: {wanted} bytes of memory are wanted, and there are none");
+        let _ = writeln!(rest, "quicklook: {what}");
         let len = 120 - rest.len();
         unsafe { libc::write(2, text.as_ptr().cast(), len) };
     }
     signals::exit(MEMORY_STATUS)
+}
+
+/// What the first thread's stack must hold until the work is on threads with stacks of their own: arguments and environment, the runtime and the
+/// loader, and up to 8 KB that the system leaves free at random.
+const FIRST_STACK: libc::rlim_t = 64 << 10;
+
+/// Raises a lower limit on the first thread's stack, which grows as its limit then allows; where it may not be raised the program ends.
+pub fn first_stack() {
+    let mut limit = libc::rlimit { rlim_cur: 0, rlim_max: 0 };
+    // SAFETY: both take the limit by a reference to a whole record.
+    unsafe {
+        if libc::getrlimit(libc::RLIMIT_STACK, &mut limit) != 0 || limit.rlim_cur >= FIRST_STACK {
+            return;
+        }
+        let raised = libc::rlimit { rlim_cur: FIRST_STACK, rlim_max: limit.rlim_max.max(FIRST_STACK) };
+        if libc::setrlimit(libc::RLIMIT_STACK, &raised) != 0 {
+            end_saying(format_args!("{FIRST_STACK} bytes of stack are wanted, and the limit is {}", limit.rlim_cur));
+        }
+    }
 }
 
 /// Whether so much memory could be had now.
