@@ -1,6 +1,7 @@
+#![tactic(auto)]
 // The enums of types.rs that the calls take, in its order, and the declared answers and records that calls and their parts give.
 
-#[derive(Drop)]
+#[derive(Clone, Copy)]
 pub enum PolarizationOperation {
     Sum,
     Diff,
@@ -9,7 +10,7 @@ pub enum PolarizationOperation {
     LogRatio,
 }
 
-#[derive(Drop)]
+#[derive(Clone, Copy)]
 pub enum AutoscaleStrategy {
     Standard,
     Robust,
@@ -20,7 +21,7 @@ pub enum AutoscaleStrategy {
     Default,
 }
 
-#[derive(Drop)]
+#[derive(Clone, Copy)]
 pub enum SyntheticRgbMode {
     Default,
     RgbRatio,
@@ -29,14 +30,14 @@ pub enum SyntheticRgbMode {
 }
 
 // "which band is co-pol".
-#[derive(Drop)]
+#[derive(Clone, Copy)]
 pub enum CoPol {
     Band1,
     Band2,
 }
 
 // What a picture is told beside its bands.
-#[derive(Drop)]
+#[derive(Clone, Copy)]
 pub struct PictureChoices {
     pub strategy: AutoscaleStrategy,
     pub mode: SyntheticRgbMode,
@@ -44,14 +45,14 @@ pub struct PictureChoices {
 }
 
 // Done, or a number of the table of replies.
-#[derive(Drop)]
+#[derive(Clone, Copy)]
 pub enum Reply {
     Done,
     Refused(u8),
 }
 
 // "The statistics are one record of a count and fifteen floats", with the Rust's field names; "carries the bins of p05 and p95"; "gains the row and column of the first valid maximum".
-#[derive(Drop)]
+#[derive(Clone, Copy)]
 pub struct HistogramStats {
     pub valid_count: usize,
     pub min_db: f64,
@@ -75,14 +76,14 @@ pub struct HistogramStats {
     pub max_col: usize,
 }
 
-#[derive(Drop)]
+#[derive(Clone, Copy)]
 pub enum StatisticsAnswer {
     Statistics(HistogramStats),
     Refused(u8),
 }
 
 // "A window answer is a window with its floats, or blank, or a refusal (1 to 4 only)."
-#[derive(Drop)]
+#[derive(Clone, Copy)]
 pub enum WindowAnswer {
     Window {
         low: f64,
@@ -95,14 +96,14 @@ pub enum WindowAnswer {
 }
 
 // The windows of a picture's two bands, each a window or blank, or the number that refuses the call.
-#[derive(Drop)]
+#[derive(Clone, Copy)]
 pub enum PictureWindows {
     Windows(WindowAnswer, WindowAnswer),
     Refused(u8),
 }
 
 // A window's floats, as painting takes them.
-#[derive(Drop)]
+#[derive(Clone, Copy)]
 pub struct WindowFloats {
     pub low: f64,
     pub high: f64,
@@ -111,14 +112,14 @@ pub struct WindowFloats {
 }
 
 // The sides of a raster.
-#[derive(Drop)]
+#[derive(Clone, Copy)]
 pub struct Sides {
     pub rows: usize,
     pub cols: usize,
 }
 
 // The lengths lent to a picture: two grey outputs, colours, work.
-#[derive(Drop)]
+#[derive(Clone, Copy)]
 pub struct Lent {
     pub grey1: usize,
     pub grey2: usize,
@@ -127,14 +128,14 @@ pub struct Lent {
 }
 
 // A place in a raster.
-#[derive(Drop)]
+#[derive(Clone, Copy)]
 pub struct Place {
     pub row: usize,
     pub col: usize,
 }
 
 // What pass one knows of the values so far.
-#[derive(Drop)]
+#[derive(Clone, Copy)]
 pub struct Moments {
     pub count: u32,
     pub min_db: f64,
@@ -144,7 +145,7 @@ pub struct Moments {
 }
 
 // A bin, its count and the target's rank within it.
-#[derive(Drop)]
+#[derive(Clone, Copy)]
 pub struct BinRank {
     pub bin: usize,
     pub size: u32,
@@ -152,7 +153,7 @@ pub struct BinRank {
 }
 
 // A value, "its bin and its rank within the bin".
-#[derive(Drop)]
+#[derive(Clone, Copy)]
 pub struct Percentile {
     pub value: f64,
     pub bin: usize,
@@ -160,7 +161,7 @@ pub struct Percentile {
 }
 
 // What a strategy decides: the Rust's (low_clip, high_clip, gamma).
-#[derive(Drop)]
+#[derive(Clone, Copy)]
 pub struct Clip {
     pub low: f64,
     pub high: f64,
@@ -168,7 +169,7 @@ pub struct Clip {
 }
 
 // Where a row or a column lies among the tiles: its place, two tiles, and the second one's weight.
-#[derive(Drop)]
+#[derive(Clone, Copy)]
 pub struct TilePosition {
     pub position: f64,
     pub first: usize,
@@ -177,7 +178,7 @@ pub struct TilePosition {
 }
 
 // The colour bytes of one pixel.
-#[derive(Drop)]
+#[derive(Clone, Copy)]
 pub struct Rgb {
     pub r: u8,
     pub g: u8,
