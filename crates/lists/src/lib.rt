@@ -1,3 +1,4 @@
+#![tactic(auto)]
 // Lists filled with zeros. The laws on lists that several crates cite stand in proofs/.
 ghost use Rattle.std.specs.Prelude.{◌≡◌, length, replicate};
 
