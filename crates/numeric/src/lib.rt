@@ -1,3 +1,4 @@
+#![tactic(auto)]
 // Steps on floats that the Rust takes by methods and by `as`, each bit-exact: picks, casts, rounding, the root.
 ghost use Rattle.std.specs.Prelude.{◌≡◌, ◌+◌, ◌*◌, ◌/◌, ◌%◌, ◌^◌, ◌<◌, ◌≤◌, T, from_bits};
 ghost use Rattle.std.specs.Float.{binary32, binary64};
@@ -89,6 +90,7 @@ pub fn f32_as_u64(x: f32) -> u64
 }
 
 // `f64::round` and then `as u64`: half away from zero. From 2^52 on every f64 is whole.
+#[tactic(auto, using(crate::proofs::Facts::holds, crate::proofs::Away::whole_fits, crate::proofs::Away::large))]
 pub fn round_f64_as_u64(x: f64) -> u64
     ensures { result ≡ round_as_u64 x }
 {
@@ -102,6 +104,7 @@ pub fn round_f64_as_u64(x: f64) -> u64
 }
 
 // `f32::round` and then `as u64`, likewise. From 2^23 on every f32 is whole.
+#[tactic(auto, using(crate::proofs::Facts::holds, crate::proofs::Away::whole_fits, crate::proofs::Away::large))]
 pub fn round_f32_as_u64(x: f32) -> u64
     ensures { result ≡ round_as_u64 x }
 {
@@ -153,6 +156,7 @@ pub fn round_f32(x: f32) -> f32
 }
 
 // `f64::from_bits`: every NaN pattern gives the NaN.
+#[tactic(auto, using(crate::proofs::Casts::quotient64, crate::proofs::Casts::no_nan_ones, crate::proofs::Casts::no_nan_digits))]
 pub fn f64_from_bits(n: u64) -> f64
     ensures { result ≡ from_bits binary64 n }
 {
@@ -165,6 +169,7 @@ pub fn f64_from_bits(n: u64) -> f64
 }
 
 // `f32::from_bits`, likewise.
+#[tactic(auto, using(crate::proofs::Casts::quotient32, crate::proofs::Casts::no_nan_ones, crate::proofs::Casts::no_nan_digits))]
 pub fn f32_from_bits(n: u32) -> f32
     ensures { result ≡ from_bits binary32 n }
 {
@@ -209,7 +214,7 @@ pub fn round_small(x: f64) -> u32
 }
 
 // A whole-number root under way: its digits so far, what their square leaves, and the digits of the number to come.
-#[derive(Drop)]
+#[derive(Clone, Copy)]
 struct Rooting {
     root: u64,
     rest: u64,
@@ -271,6 +276,7 @@ fn root_of(q: u64, k: u64) -> f64
 }
 
 // `f64::sqrt`: correctly rounded, the zeros and the infinity their own roots, the NaN below zero.
+#[tactic(auto, using(crate::proofs::Facts::holds, crate::proofs::Rooted::fields, crate::proofs::Rooted::normal, crate::proofs::Rooted::unbounded))]
 pub fn sqrt_f64(x: f64) -> f64
     ensures { result ≡ sqrt_float x }
 {
