@@ -1,14 +1,14 @@
 -- A value is found by its cell: the thresholds in earlier cells are below it, those in later cells above, and at most one lies in its own. Assumes nothing.
 use mathlib.Core.Path.{◌≡◌, refl, sym, ap, ◌∙◌, subst}
 use mathlib.Core.Logic.{◌⊎◌, inl, inr}
-use mathlib.Core.Bool.{Bool, true, false, not}
+use mathlib.Core.Bool.{false}
 use mathlib.Core.List.{List}
-use Prim.Native.Nat.{ℕ, zero, suc, ◌+◌, ◌-◌, ◌≤◌, ◌<◌, zero-le}
-use native.Mathlib.Nat.{le_trans, le_of_eq, lt_of_le_of_lt, eq-or-lt_of_le}
+use Prim.Native.Nat.{ℕ, suc, ◌+◌, ◌-◌, ◌≤◌, ◌<◌, zero-le}
+use native.Mathlib.Nat.{lt_of_le_of_lt, eq-or-lt_of_le}
 use native.Mathlib.Omega.{arith}
 use lib.Dec.{T, not_T}
 use lib.Ieee.{Float, nan, inf, fin, binary64, fits, is_nan, le, lt, add, sub, mul, of_bits, to_unsigned, round}
-use lib.Ieee.Bits.{is_true, is_false}
+use lib.Ieee.Bits.{is_false}
 use lib.ListN.{length, get_or, set}
 use lib.Seq.{get_or-set_same, get_or-set_other}
 use Rattle.spec.specs.Floats.{zero64, clamp_float}
@@ -19,7 +19,7 @@ use Rattle.numeric.specs.Round.{big64, nearest_small}
 use Rattle.numeric.proofs.Ops.{add-le, sub-le, mul-le}
 use Rattle.numeric.proofs.Picks.{clamped_le, clamped_hi, to_unsigned-le}
 use Rattle.numeric.proofs.Small.{clamp_float-small}
-use Rattle.gamma.specs.Thresholds.{Threshold, cell_of, Row, Rising, Guess, Nearly, Rank}
+use Rattle.gamma.specs.Thresholds.{cell_of, Row, Rising, Guess, Nearly, Rank}
 use Rattle.gamma.proofs.Laws.{value_is}
 
 -- 1023.0

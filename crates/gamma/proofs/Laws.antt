@@ -1,11 +1,11 @@
 -- A gamma's value: which byte it is, its order, and that it does not see a zero's sign. Assumes nothing.
 use mathlib.Core.Path.{◌≡◌, refl, sym, ap, ◌∙◌, subst}
 use mathlib.Core.Bool.{Bool, true, false, cond}
-use Prim.Native.Nat.{ℕ, zero, suc, ◌+◌, ◌*◌, ◌^◌, ◌≤◌, ◌<◌, zero-le}
-use native.Mathlib.Nat.{le_trans, le_of_eq, le_refl, lt_of_not-le, le_of_lt}
+use Prim.Native.Nat.{ℕ, zero, suc, ◌+◌, ◌*◌, ◌≤◌, ◌<◌, zero-le}
+use native.Mathlib.Nat.{le_refl, lt_of_not-le}
 use native.Mathlib.Decide.{dec_le}
 use native.Mathlib.Omega.{arith}
-use lib.Dec.{T, not_T, leb, leb→le, le→leb}
+use lib.Dec.{T, not_T, leb→le, le→leb}
 use lib.Ieee.{Float, nan, inf, fin, binary64, up, down, le, lt, eq, div}
 use lib.IntN.{pos}
 use lib.Ieee.Bits.{is_true, is_false}

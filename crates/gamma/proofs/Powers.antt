@@ -1,9 +1,8 @@
 -- A fraction that is no smaller reaches all that the smaller one reaches, and what reaches k + 1 reaches k. Assumes nothing.
-use mathlib.Core.Path.{◌≡◌, refl, sym, ap, ap₂, ◌∙◌, subst, subst₂}
-use Prim.Native.Nat.{ℕ, zero, suc, ◌+◌, ◌*◌, ◌^◌, ◌≤◌, ◌<◌}
-use native.Mathlib.Nat.{le_trans, le_of_eq, pow-suc, one-le-pow, mul_assoc, mul_comm, mul_left_comm, mul_right_comm, mul-one, mul-le-mul_left, mul-le-mul_right, le_of_mul-le-mul_right, pow-le-pow_left, mul-mul-mul_comm}
+use mathlib.Core.Path.{◌≡◌, sym, ap, ap₂, ◌∙◌}
+use Prim.Native.Nat.{ℕ, zero, suc, ◌*◌, ◌^◌, ◌≤◌, ◌<◌}
+use native.Mathlib.Nat.{le_trans, le_of_eq, pow-suc, one-le-pow, mul_assoc, mul_right_comm, mul-le-mul_left, mul-le-mul_right, le_of_mul-le-mul_right, pow-le-pow_left, mul-mul-mul_comm}
 use native.Mathlib.Numerals.{unary_clauses}
-use native.Mathlib.Omega.{arith}
 
 pub mul_pow : (a b n : ℕ) → (a * b) ^ n ≡ a ^ n * b ^ n
 mul_pow a b zero = simp unary_clauses

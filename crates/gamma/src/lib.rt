@@ -1,3 +1,4 @@
+#![tactic(auto)]
 // Gamma at eight bits: the thresholds of 0.8, 0.9 and 1.1, and a value by them.
 ghost use Rattle.std.specs.Prelude.{◌≡◌, ◌≤◌, ◌<◌, length};
 ghost use Rattle.spec.specs.Gamma.{over, under, curve};

@@ -1,11 +1,10 @@
 -- `gamma::curve_of` meets its contract. Assumes nothing.
-use mathlib.Core.Path.{◌≡◌, sym, ap, ◌∙◌}
-use mathlib.Core.Bool.{Bool, true, false, cond}
+use mathlib.Core.Path.{◌≡◌}
+use mathlib.Core.Bool.{true, false}
 use lib.Ieee.{Float, eq}
 use Rattle.spec.specs.Gamma.{curve}
 use Rattle.spec.specs.Window.{gamma08, gamma09, gamma11}
-use Rattle.gamma.proofs.curve_of.Statement.{statement}
-use Rattle.gamma.proofs.curve_of.Tie as tie
+use Rattle.gamma.proofs.curve_of.Goals as goal
 
 -- the number by the first gamma that fits
 module _ (g : Float) where
@@ -25,17 +24,14 @@ module _ (g : Float) where
   unfolding curve
   none a b c = rw (a, b, c)
 
-returns : tie.Need-returns
-returns c = first _ c.if1.true
+pub returns-then-gamma : goal.returns-then-gamma
+returns-then-gamma c = first _ c.if-gamma.true
 
-returns-2 : tie.Need-returns-2
-returns-2 c = second _ c.before.if1.false c.if2.true
+pub returns-then-gamma-2 : goal.returns-then-gamma-2
+returns-then-gamma-2 c = second _ c.if-gamma.false c.if-gamma-2.true
 
-returns-3 : tie.Need-returns-3
-returns-3 c = third _ c.before.before.if1.false c.before.if2.false c.if3.true
+pub returns-then-gamma-3 : goal.returns-then-gamma-3
+returns-then-gamma-3 c = third _ c.if-gamma.false c.if-gamma-2.false c.if-gamma-3.true
 
-returns-4 : tie.Need-returns-4
-returns-4 c = none _ c.before.before.if1.false c.before.if2.false c.if3.false
-
-pub curve_of_spec : {M : Type 1} → statement M
-curve_of_spec = tie.close (tie.spec returns returns-2 returns-3 returns-4)
+pub returns : goal.returns
+returns c = none _ c.if-gamma.false c.if-gamma-2.false c.if-gamma-3.false

@@ -3,12 +3,8 @@ use Rattle.gamma.proofs.Sills.{rows_right}
 use lib.Ieee.{of_bits, to_bits, mul, add, sub, neg, lt, to_unsigned}
 use Rattle.gamma.specs.Thresholds.{cell_of}
 use Rattle.numeric.specs.Round.{nearest_small}
-use Rattle.gamma.proofs.all_thresholds.Statement.{statement}
-use Rattle.gamma.proofs.all_thresholds.Tie as tie
+use Rattle.gamma.proofs.all_thresholds.Goals as goal
 
-returns : tie.Need-returns
+pub returns : goal.returns
 unfolding of_bits to_bits mul lt to_unsigned cell_of nearest_small sub add neg
 returns c = rows_right _ tt
-
-pub all_thresholds_spec : {M : Type 1} → statement M
-all_thresholds_spec = tie.close (tie.spec returns)
