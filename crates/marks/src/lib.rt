@@ -1,3 +1,4 @@
+#![tactic(auto)]
 // The marks that `process_scalar_data_inplace` gives to a list of f32: 1 where the value is above the binary32 of bits 3727C5AC, else 0.
 ghost use Rattle.std.specs.Prelude.{◌≡◌, ◌||◌, [], ◌∷◌, map, length};
 ghost use Rattle.spec.specs.Answer.{first_of, number, reply_number, after};
@@ -7,6 +8,7 @@ ghost use Rattle.spec.specs.Marks.{mark_of, process_scalar_data_mask};
 use types::Reply;
 
 // The mark of one value: 0 for a NaN.
+#[tactic(auto, unfolding(spec::specs::Marks::mark_of))]
 fn mark_of(x: f32) -> u8
     ensures { result ≡ mark_of x }
 {
@@ -26,6 +28,7 @@ fn fill_marks(processed: &[f32], valid_mask: &mut [u8])
 }
 
 // The number that refuses the two lengths, or 0.
+#[tactic(auto, unfolding(spec::specs::Answer::first_of, spec::specs::Refusals::too_long, spec::specs::Refusals::unlike))]
 fn refusal(processed: usize, valid_mask: usize) -> u8
     ensures { result ≡ first_of 2 ((too_long processed || unlike valid_mask processed) ∷ []) }
 {
@@ -39,6 +42,7 @@ fn refusal(processed: usize, valid_mask: usize) -> u8
 }
 
 // The marks of a whole list.
+#[tactic(auto, unfolding(spec::specs::Marks::process_scalar_data_mask, spec::specs::Answer::first_of, spec::specs::Answer::or_refused, spec::specs::Answer::answer, spec::specs::Answer::number, spec::specs::Answer::reply_number, spec::specs::Answer::after, spec::specs::Refusals::too_long, spec::specs::Refusals::unlike))]
 pub fn process_scalar_data_mask(processed: &[f32], valid_mask: &mut [u8]) -> Reply
     ensures reply { reply_number result ≡ number (process_scalar_data_mask processed.now (length valid_mask.old)) }
     ensures marks { valid_mask.new ≡ after (λ l. l) (process_scalar_data_mask processed.now (length valid_mask.old)) valid_mask.old }
