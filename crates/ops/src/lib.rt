@@ -1,3 +1,4 @@
+#![tactic(auto)]
 // The operations of ops.rs: two lists of f32, value by value, into a lent list.
 ghost use Rattle.std.specs.Prelude.{◌≡◌, ◌||◌, length};
 ghost use mathlib.Core.List.{[], ◌∷◌, zip_with};
@@ -9,6 +10,7 @@ ghost use Rattle.ops.specs.Chosen.{operate};
 use types::{PolarizationOperation, Reply};
 
 // a over b, or 0 unless the size of b exceeds 1e-10.
+#[tactic(auto, unfolding(spec::specs::Ops::guarded_ratio, spec::specs::Floats::abs_float))]
 fn guarded_ratio(a: f32, b: f32) -> f32
     ensures { result ≡ guarded_ratio a b }
 {
@@ -45,6 +47,7 @@ fn fill(operation: PolarizationOperation, a: &[f32], b: &[f32], out: &mut [f32])
 }
 
 // The number that refuses the three lengths, or 0.
+#[tactic(auto, unfolding(spec::specs::Answer::first_of, spec::specs::Refusals::too_long, spec::specs::Refusals::unlike))]
 fn refusal(a: usize, b: usize, out: usize) -> u8
     ensures { result ≡ first_of 2 ((unlike b a || too_long a || unlike out a) ∷ []) }
 {
