@@ -1,3 +1,4 @@
+#![tactic(auto)]
 // `add_padding_to_square` of padding.rs: a raster put in the middle of a square of zeros, at 8 and at 16 bits.
 ghost use Rattle.std.specs.Prelude.{◌≡◌, ◌||◌, [], ◌∷◌, ◌+◌, ◌*◌, ◌≤◌, ◌<◌, max, length, replicate};
 ghost use Rattle.std.proofs.Math.Seq.{paste};
@@ -16,6 +17,7 @@ fn larger_side(rows: usize, cols: usize) -> usize
 }
 
 // The number that refuses the sides and the two lengths, or 0.
+#[tactic(auto, unfolding(spec::specs::Answer::first_of, spec::specs::Refusals::sides_refused, spec::specs::Refusals::unlike), using(crate::proofs::Lengths::product))]
 fn refusal(rows: usize, cols: usize, pixels: usize, padded: usize) -> u8
     ensures { result ≡ first_of 1 (sides_refused rows cols ∷ (unlike pixels (rows * cols) || unlike padded (max rows cols * max rows cols)) ∷ []) }
 {
