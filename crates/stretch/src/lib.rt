@@ -1,3 +1,4 @@
+#![tactic(auto)]
 // `scale_u16_to_u8`: values stretched to bytes between their least and their greatest, in f32, each step rounded once.
 ghost use Rattle.std.specs.Prelude.{◌≡◌, map, ◌+◌, ◌≤◌, min, max, length, get_or};
 ghost use Rattle.spec.specs.Answer.{number, reply_number, after};
@@ -40,7 +41,7 @@ fn max_u16(a: u16, b: u16) -> u16
 }
 
 // The least and the greatest of a list.
-#[derive(Drop)]
+#[derive(Clone, Copy)]
 pub struct Ends {
     pub lo: u16,
     pub hi: u16,

@@ -1,0 +1,37 @@
+-- `stretch::scale_u16_to_u8` meets its contract. Assumes nothing.
+use native.Mathlib.Omega.{arith}
+use Rattle.spec.specs.Answer.{reply_number}
+use Rattle.stretch.proofs.Calls.{long_refused, unlike-refused, stretched}
+use Rattle.stretch.proofs.scale_u16_to_u8.Goals as goal
+
+pub returns-then-data-gt16777216 : goal.returns-then-data-gt16777216
+unfolding reply_number
+returns-then-data-gt16777216 c =
+    let a = c.args in let r = long_refused a.«data».now a.out.now (omega arith) in record {
+      result_value = r.0;
+      out_after = r.1;
+    }
+
+pub returns-then-out-data : goal.returns-then-out-data
+unfolding reply_number
+returns-then-out-data c =
+    let a = c.args in let r = unlike-refused a.«data».now a.out.now (λ e. omega arith) in record {
+      result_value = r.0;
+      out_after = r.1;
+    }
+
+pub returns-then-data-lt65536 : goal.returns-then-data-lt65536
+unfolding reply_number
+returns-then-data-lt65536 c =
+    let a = c.args in let r = stretched c.ends_of-ends.result.lo c.ends_of-ends.result.hi a.«data».now a.out.now _ (omega arith) (omega arith) c.ends_of-ends.ensures c.stretch_each.ensures in record {
+      result_value = r.0;
+      out_after = r.1;
+    }
+
+pub returns : goal.returns
+unfolding reply_number
+returns c =
+    let a = c.args in let r = stretched c.ends_of-ends.result.lo c.ends_of-ends.result.hi a.«data».now a.out.now _ (omega arith) (omega arith) c.ends_of-ends.ensures c.stretch_by_table.ensures in record {
+      result_value = r.0;
+      out_after = r.1;
+    }
