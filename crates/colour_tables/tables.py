@@ -1,5 +1,6 @@
 # Writes the numbers of the colour tables, by whole numbers alone, from the rules of document 01:
 #   python3 crates/colour_tables/tables.py > crates/colour_tables/src/numbers.rt
+# and then `rt fmt` in crates/colour_tables, which lays the rows out.
 from fractions import Fraction
 
 

@@ -1,3 +1,4 @@
+#![tactic(auto)]
 // The colour tables: red and green of each byte, by default and above a floor, and the ratios at which blue rises. Each holds the numbers of document 01's rule.
 ghost use Rattle.std.specs.Prelude.{◌≤◌};
 ghost use Rattle.spec.specs.Colour.{red, green, red_above, green_above};

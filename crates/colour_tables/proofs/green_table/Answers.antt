@@ -2,12 +2,8 @@
 use Prim.Native.Nat.{ℕ, ◌*◌, ◌^◌}
 use Rattle.spec.specs.Colour.{green}
 use Rattle.colour_tables.proofs.Near.{table_right}
-use Rattle.colour_tables.proofs.green_table.Statement.{statement}
-use Rattle.colour_tables.proofs.green_table.Tie as tie
+use Rattle.colour_tables.proofs.green_table.Goals as goal
 
-returns : tie.Need-returns
+pub returns : goal.returns
 unfolding green
 returns c = table_right 10 (255 ^ 9) (λ (v : ℕ). 510 ^ 10 * v ^ 9) _ tt
-
-pub green_table_spec : {M : Type 1} → statement M
-green_table_spec = tie.close (tie.spec returns)

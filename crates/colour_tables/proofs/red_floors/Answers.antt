@@ -2,12 +2,8 @@
 use Prim.Native.Nat.{ℕ, ◌*◌, ◌-◌, ◌^◌}
 use Rattle.spec.specs.Colour.{red_above}
 use Rattle.colour_tables.proofs.Near.{tables_right}
-use Rattle.colour_tables.proofs.red_floors.Statement.{statement}
-use Rattle.colour_tables.proofs.red_floors.Tie as tie
+use Rattle.colour_tables.proofs.red_floors.Goals as goal
 
-returns : tie.Need-returns
+pub returns : goal.returns
 unfolding red_above
 returns c = tables_right 20 (λ (f : ℕ). (255 - f) ^ 23) (λ (f : ℕ) (v : ℕ). 510 ^ 20 * (v - f) ^ 23) _ tt
-
-pub red_floors_spec : {M : Type 1} → statement M
-red_floors_spec = tie.close (tie.spec returns)

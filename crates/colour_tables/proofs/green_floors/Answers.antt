@@ -2,12 +2,8 @@
 use Prim.Native.Nat.{ℕ, ◌*◌, ◌-◌, ◌^◌}
 use Rattle.spec.specs.Colour.{green_above}
 use Rattle.colour_tables.proofs.Near.{tables_right}
-use Rattle.colour_tables.proofs.green_floors.Statement.{statement}
-use Rattle.colour_tables.proofs.green_floors.Tie as tie
+use Rattle.colour_tables.proofs.green_floors.Goals as goal
 
-returns : tie.Need-returns
+pub returns : goal.returns
 unfolding green_above
 returns c = tables_right 10 (λ (f : ℕ). (255 - f) ^ 11) (λ (f : ℕ) (v : ℕ). 510 ^ 10 * (v - f) ^ 11) _ tt
-
-pub green_floors_spec : {M : Type 1} → statement M
-green_floors_spec = tie.close (tie.spec returns)
