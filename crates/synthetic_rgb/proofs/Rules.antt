@@ -2,7 +2,7 @@
 use mathlib.Core.Path.{◌≡◌, refl, ◌∙◌, fun_ext}
 use mathlib.Core.Bool.{Bool, true, false, cond, ◌&&◌}
 use mathlib.Core.List.{List}
-use Prim.Native.Nat.{ℕ, zero, suc, ◌+◌, ◌*◌, ◌≤◌, ◌<◌}
+use Prim.Native.Nat.{ℕ, zero, suc, ◌+◌, ◌*◌, ◌-◌, ◌/◌, ◌%◌, ◌≤◌, ◌<◌}
 use native.Mathlib.Nat.{le_trans, add-zero, mul-le-mul_left}
 use native.Mathlib.Omega.{arith}
 use borrow.Author.Tests.{eqb-false, leb-true}
@@ -43,6 +43,10 @@ rank_reached h = record { within = h.within; reaches = h.reaches }
 -- place 0 counts as reached
 pub reached-first : (t : List ℕ) (r g : ℕ) → 2 ≤ length t → Reached t r g 0
 reached-first t r g l = record { within = omega arith; reaches = λ p. absurd (omega arith) }
+
+-- within a row, the pair before reaches the place
+abbrev pub Placed : Composition → List ℕ → ℕ → ℕ → Type 0
+Placed kind t i place = 0 < i % 256 → Reached t (red_of kind (i % 256 - 1) + epsilon kind) (green_of kind (i / 256) + epsilon kind) place
 
 -- a ratio has no zero below it where blue is asked for
 lit_positive : (kind : Composition) (v1 v2 : ℕ) → is_dark kind v1 v2 ≡ false → 0 < green_of kind v2 + epsilon kind

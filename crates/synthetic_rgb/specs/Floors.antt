@@ -1,5 +1,5 @@
 -- The floor of the suppressed colours: where it lies, and what it is where a twentieth of the bytes rounds to none. Statements only: the proofs are in proofs/.
-use Rattle.std.specs.Prelude.{ℕ, ◌+◌, ◌≤◌, ◌<◌, ◌≡◌, List, length}
+use Rattle.std.specs.Prelude.{ℕ, ◌+◌, ◌≤◌, ◌≡◌, List, length}
 use Rattle.spec.specs.Colour.{floor_level}
 
 pub record Floors : Type 0 where

@@ -1,3 +1,4 @@
+#![tactic(auto)]
 // Synthetic RGB colours of two bands: by default, and suppressed above a floor.
 ghost use Rattle.std.specs.Prelude.{◌≡◌, ◌*◌, ◌≤◌, length};
 ghost use mathlib.Core.List.{zip_with};
@@ -12,7 +13,7 @@ mod floor;
 mod pixels;
 
 // Which colours: the default ones, or the suppressed ones above a floor.
-#[derive(Drop)]
+#[derive(Clone, Copy)]
 pub enum Composition {
     Plain,
     Suppressed(u8),
@@ -100,6 +101,7 @@ pub fn compose_by_mode_and_strategy(
 }
 
 // Composition as a call: the lengths are tested first.
+#[tactic(auto, unfolding(spec::specs::Colour::create_synthetic_rgb_by_mode_and_strategy, spec::specs::Answer::first_of, spec::specs::Answer::or_refused, spec::specs::Answer::answer, spec::specs::Answer::number, spec::specs::Answer::reply_number, spec::specs::Answer::after, spec::specs::Refusals::too_long, spec::specs::Refusals::unlike))]
 pub fn create_synthetic_rgb_by_mode_and_strategy(
     mode: SyntheticRgbMode,
     strategy: AutoscaleStrategy,
