@@ -1,6 +1,6 @@
 -- One turn of a pass, as a law of the definition that its contract cites. Assumes nothing.
 use mathlib.Core.Path.{◌≡◌, refl, sym, ap, ◌∙◌}
-use mathlib.Core.Bool.{Bool, true, false, ◌||◌, or_assoc, or_false}
+use mathlib.Core.Bool.{Bool, true, false, ◌||◌, or_assoc, or-false}
 use mathlib.Core.List.{List, [], ◌∷◌}
 use Prim.Native.Nat.{ℕ, suc, ◌+◌, ◌≤◌, ◌<◌, max}
 use native.Mathlib.Nat.{max-le, le-max_left, le-max_right}
@@ -49,5 +49,5 @@ above n m x = go (ltb n m) (ltb n x) refl refl
 
 pub any-highest : (n m : ℕ) (xs : List ℕ) → ltb n (highest m xs) ≡ (ltb n m || any (ltb n) xs)
 unfolding any highest
-any-highest n m [] = sym (or_false (ltb n m))
+any-highest n m [] = sym (or-false (ltb n m))
 any-highest n m (x ∷ xs) = any-highest n (max m x) xs ∙ ap (λ (t : Bool). t || any (ltb n) xs) (above n m x) ∙ or_assoc (ltb n m) (ltb n x) (any (ltb n) xs)

@@ -1,3 +1,4 @@
+#![tactic(auto)]
 // The refusals that any band can meet, each a test of one pass, and the first three together in the order of the table of replies.
 ghost use Rattle.std.specs.Prelude.{◌≡◌, ◌∷◌, [], ◌≤◌, length};
 ghost use Rattle.spec.specs.Answer.{first_of};
