@@ -1,20 +1,19 @@
 -- The call for the bins by the answers of its parts. Assumes nothing.
 use mathlib.Core.Path.{◌≡◌, refl, sym, ap, ◌∙◌}
-use mathlib.Core.Bool.{Bool, true, false, not, ◌||◌}
+use mathlib.Core.Bool.{Bool, true, false, ◌||◌}
 use mathlib.Core.List.{List, [], ◌∷◌}
 use Prim.Native.Nat.{ℕ}
 use native.Mathlib.Omega.{arith}
-use lib.Dec.{eqb}
 use lib.ListN.{length}
 use lib.Ieee.{Float}
 use Rattle.types.specs.declared.Moments.{Moments}
-use Rattle.spec.specs.Answer.{Answer, refused, done, first_of, or_refused, answer, number, after}
-use Rattle.spec.specs.Moments.{no_moments, moments_from}
+use Rattle.spec.specs.Answer.{Answer, refused, done, first_of, answer, number, after}
+use Rattle.spec.specs.Moments.{no_moments}
 use Rattle.spec.specs.Pixels.{Pixel, pixels, valid_of}
 use Rattle.spec.specs.Refusals.{sides_refused, lengths_refused, unlike, marks_refused, decibels_refused}
 use Rattle.spec.specs.Bins.{bins_of}
 use Rattle.spec.specs.Curve.{curve_of, compute_histogram}
-use Rattle.raster.proofs.Bands.{Shaped, shape_accepted, none_applies, or_false, named, sides_accepted, lengths_accepted, first_stays, first_later, first-here, first_not_here, first-none}
+use Rattle.raster.proofs.Bands.{Shaped, none_applies, or_false, named, sides_accepted, lengths_accepted, first_stays, first_later, first-here, first_not_here, first-none}
 use Rattle.histogram.specs.declared.moments.FirstPass.TheVariants.{Passed, BadDecibel}
 use Rattle.histogram.specs.Extremes.{extremes_from}
 use Rattle.histogram.specs.Passes.{extremes}

@@ -10,7 +10,7 @@ use lib.Ieee.{Float, nan}
 use Rattle.types.specs.declared.Moments.{Moments}
 use Rattle.spec.specs.Moments.{no_moments, with_value, moments_from}
 use Rattle.spec.specs.Pixels.{on, pixels, valid_of}
-use Rattle.spec.specs.Refusals.{decibel_refused, decibels_refused}
+use Rattle.spec.specs.Refusals.{decibel_refused}
 use Rattle.spec.specs.Strongest.{is_new_max, strongest_from, strongest}
 use Rattle.raster.proofs.Bands.{next_off, next_on, drop_end}
 use Rattle.histogram.specs.declared.place.PlacedPass.TheVariants.{Placed, BadPlaced}

@@ -1,3 +1,4 @@
+#![tactic(auto)]
 // The statistics of a band: pass one, the bins, the percentiles, the record, and the calls for statistics and for the bins.
 ghost use Rattle.std.specs.Prelude.{◌≡◌, ◌||◌, ◌∷◌, [], ◌<◌, ◌^◌, length};
 ghost use Rattle.spec.specs.Answer.{number, reply_number, first_of, after};

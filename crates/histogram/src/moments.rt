@@ -9,7 +9,7 @@ ghost use Rattle.histogram.specs.Passes.{first_pass, extremes};
 use types::Moments;
 
 // What a pass over a band finds: the moments of its valid dB, or that one of them is refused.
-#[derive(Drop)]
+#[derive(Clone, Copy)]
 pub enum FirstPass {
     Passed(Moments),
     BadDecibel,

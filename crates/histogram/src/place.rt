@@ -8,7 +8,7 @@ use super::moments;
 use types::{Moments, Place};
 
 // What a pass over a band finds: the moments of its valid dB and the place of the first maximum, or that one of them is refused.
-#[derive(Drop)]
+#[derive(Clone, Copy)]
 pub enum PlacedPass {
     Placed(Moments, usize),
     BadPlaced,
