@@ -1,18 +1,14 @@
 -- What painting leaves in each case of a window. Assumes nothing.
 use mathlib.Core.Path.{◌≡◌, refl, sym, ap, ◌∙◌}
-use mathlib.Core.Bool.{Bool, true, false, not, cond}
+use mathlib.Core.Bool.{false}
 use mathlib.Core.List.{List, [], ◌∷◌, map}
 use Prim.Native.Nat.{ℕ, zero-le}
-use native.Mathlib.Omega.{arith}
 use borrow.Author.Tests.{le-ltb}
-use types.Run.{OneOf, miss}
-use denote.Enum.Declared.{tag_of}
 use lib.ListN.{length, replicate}
-use lib.Ieee.{Float, eq, ne}
+use lib.Ieee.{Float, ne}
 use Rattle.types.specs.declared.AutoscaleStrategy.{AutoscaleStrategy}
 use Rattle.types.specs.declared.WindowAnswer.{WindowAnswer}
 use Rattle.types.specs.declared.WindowAnswer.TheVariants.{Window, Blank, Refused}
-use Rattle.types.specs.contracts.WindowAnswer.{the_type}
 use Rattle.spec.specs.Floats.{one64}
 use Rattle.spec.specs.Gamma.{BitDepth, U16, grey_value}
 use Rattle.spec.specs.Grey.{black, values}
@@ -48,9 +44,12 @@ module _ (w : WindowAnswer) (low high range gamma : Float) (is : w ≡ Window lo
   gamma_other = sym (ap gamma_refused is)
 
 -- ---- no window
-pub no_gamma : (w : WindowAnswer) → OneOf (1 ∷ 2 ∷ []) (tag_of the_type w) → false ≡ gamma_refused w
+abbrev pub NoWindow : WindowAnswer → Type 0
+NoWindow w = (low high range gamma : Float) → w ≡ Window low high range gamma → ⊥
+
+pub no_gamma : (w : WindowAnswer) → NoWindow w → false ≡ gamma_refused w
 unfolding gamma_refused
-no_gamma (Window low high range gamma) h = absurd (miss (1 ∷ 2 ∷ []) 0 tt h)
+no_gamma (Window low high range gamma) h = absurd (h low high range gamma refl)
 no_gamma Blank h = refl
 no_gamma (Refused k) h = refl
 
@@ -77,14 +76,14 @@ unfolding stretch
 stretch-zeros xs = ap (λ (h : ℕ). map (stretch_byte (lowest 65535 (map (λ x. 0) xs)) h) (map (λ x. 0) xs)) (no_highest xs) ∙ each-zero (lowest 65535 (map (λ x. 0) xs)) xs
 
 -- without a window a band is all zeros, stretched or not
-pub left_plain : (depth : BitDepth) (w : WindowAnswer) (px : List Pixel) (n : ℕ) → OneOf (1 ∷ 2 ∷ []) (tag_of the_type w) → length px ≡ n → replicate n 0 ≡ plain_values depth px w
+pub left_plain : (depth : BitDepth) (w : WindowAnswer) (px : List Pixel) (n : ℕ) → NoWindow w → length px ≡ n → replicate n 0 ≡ plain_values depth px w
 unfolding values black
-left_plain depth (Window low high range gamma) px n h e = absurd (miss (1 ∷ 2 ∷ []) 0 tt h)
+left_plain depth (Window low high range gamma) px n h e = absurd (h low high range gamma refl)
 left_plain depth Blank px n h e = rw (← e) (sym (zeros px))
 left_plain depth (Refused k) px n h e = rw (← e) (sym (zeros px))
 
-pub left_stretched : (depth : BitDepth) (w : WindowAnswer) (px : List Pixel) (n : ℕ) → OneOf (1 ∷ 2 ∷ []) (tag_of the_type w) → length px ≡ n → replicate n 0 ≡ stretch (plain_values depth px w)
+pub left_stretched : (depth : BitDepth) (w : WindowAnswer) (px : List Pixel) (n : ℕ) → NoWindow w → length px ≡ n → replicate n 0 ≡ stretch (plain_values depth px w)
 unfolding values black
-left_stretched depth (Window low high range gamma) px n h e = absurd (miss (1 ∷ 2 ∷ []) 0 tt h)
+left_stretched depth (Window low high range gamma) px n h e = absurd (h low high range gamma refl)
 left_stretched depth Blank px n h e = rw (← e) (sym (stretch-zeros px ∙ zeros px))
 left_stretched depth (Refused k) px n h e = rw (← e) (sym (stretch-zeros px ∙ zeros px))

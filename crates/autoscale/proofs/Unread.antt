@@ -1,14 +1,11 @@
 -- Only Adaptive reads mean and deviation, so the other strategies' windows may be taken from statistics without them. Assumes nothing.
 use mathlib.Core.Path.{◌≡◌, refl, ap, ◌∙◌}
 use mathlib.Core.Bool.{Bool, true, false, cond, true≢false}
-use mathlib.Core.List.{List, [], ◌∷◌}
-use types.Run.{OneOf, miss}
-use denote.Enum.Declared.{tag_of}
+use mathlib.Core.List.{List}
 use lib.Ieee.{Float}
 use Rattle.types.specs.declared.AutoscaleStrategy.{AutoscaleStrategy}
 use Rattle.types.specs.declared.AutoscaleStrategy.TheVariants.{Standard, Robust, Adaptive, Equalized, Clahe, Tamed, Default}
 use Rattle.types.specs.declared.HistogramStats.{HistogramStats}
-use Rattle.types.specs.contracts.AutoscaleStrategy.{the_type}
 use Rattle.spec.specs.Moments.{no_moments}
 use Rattle.spec.specs.Pixels.{Pixel, valid_of}
 use Rattle.spec.specs.Strongest.{nowhere}
@@ -59,11 +56,11 @@ pub picture_for : (strategy : AutoscaleStrategy) (copol : Bool) (px : List Pixel
 picture_for strategy copol px = for_any (picture_window strategy copol) strategy px (picture_unread strategy copol)
 
 -- a strategy that is one of the other six
-pub not_adaptive : (s : AutoscaleStrategy) → OneOf (0 ∷ 1 ∷ 3 ∷ 4 ∷ 5 ∷ 6 ∷ []) (tag_of the_type s) → false ≡ reads_mean s
+pub not_adaptive : (s : AutoscaleStrategy) → (s ≡ Adaptive → ⊥) → false ≡ reads_mean s
 unfolding reads_mean
 not_adaptive Standard h = refl
 not_adaptive Robust h = refl
-not_adaptive Adaptive h = absurd (miss (0 ∷ 1 ∷ 3 ∷ 4 ∷ 5 ∷ 6 ∷ []) 2 tt h)
+not_adaptive Adaptive h = absurd (h refl)
 not_adaptive Equalized h = refl
 not_adaptive Clahe h = refl
 not_adaptive Tamed h = refl

@@ -1,3 +1,4 @@
+#![tactic(auto)]
 // The window of a band from its statistics, by strategy, and the painting of a band from its window, outside Clahe.
 pub mod band;
 mod clip;

@@ -1,0 +1,21 @@
+-- `autoscale::autoscale_db_image_tamed_synrgb_u8` meets its contract. Assumes nothing.
+use mathlib.Core.Path.{sym, ◌∙◌}
+use native.Mathlib.Omega.{arith}
+use lib.ListN.{length}
+use Rattle.spec.specs.Pixels.{pixels}
+use Rattle.spec.specs.Gamma.{U8}
+use Rattle.raster.proofs.Bands.{pixels-length}
+use Rattle.autoscale.proofs.Painted.{plain-window, left_plain}
+use Rattle.autoscale.proofs.autoscale_db_image_tamed_synrgb_u8.Goals as goal
+
+pub returns-in_default : goal.returns-in_default
+returns-in_default c =
+    let a = c.args in
+    let e = pixels-length a.valid_mask.now a.db.now (omega arith) in
+    c.clear_u8.ensures ∙ left_plain U8 a.window (pixels a.valid_mask.now a.db.now) (length a.out.now) c.in_default.not-Window (omega arith)
+
+pub returns : goal.returns
+returns c =
+    let a = c.args in
+    let w = c.in-Window in
+    c.paint_u8.ensures.out_after ∙ sym (plain-window a.window w.low w.high w.range w.gamma w.is U8 (pixels a.valid_mask.now a.db.now))
