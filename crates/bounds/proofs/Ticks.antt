@@ -8,7 +8,6 @@ use lib.ListN.{length, get_or, take, replicate}
 use lib.Ieee.{Float}
 use Rattle.types.specs.declared.BinRank.{BinRank}
 use Rattle.types.specs.declared.HistogramStats.{HistogramStats}
-use Rattle.types.specs.declared.Percentile.{Percentile}
 use Rattle.spec.specs.Answer.{done, first_of, or_refused, answer}
 use Rattle.spec.specs.Lists.{sum_of}
 use Rattle.spec.specs.Pixels.{Pixel, pixels, valid_of}
