@@ -2,9 +2,9 @@
 use Rattle.std.proofs.Common.{◌≡◌, ℕ, ◌+◌, ◌-◌, ◌*◌, ◌/◌, ◌^◌, ◌≤◌, min, true, false, T, pos, refl, ap, ◌∙◌, add-mul, mul-le-mul, one-mul, arith, le→leb}
 use lib.Ieee.{Float, nan, inf, fin, binary64, up, down, in_float, to_unsigned}
 
-pub in_float : (n : ℕ) → n ≤ 2 ^ 53 → T (in_float binary64 (pos n))
+pub whole_in_float : (n : ℕ) → n ≤ 2 ^ 53 → T (in_float binary64 (pos n))
 unfolding in_float
-in_float n h = le→leb n (2 ^ 53) h
+whole_in_float n h = le→leb n (2 ^ 53) h
 
 pub times_most : (a b m n : ℕ) → a ≤ m → b ≤ n → a * b ≤ m * n
 times_most a b m n h k = mul-le-mul {n₁ = a} {m₁ = b} {n₂ = m} {m₂ = n} h k

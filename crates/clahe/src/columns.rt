@@ -7,7 +7,7 @@ use super::sampling::tile_position;
 use super::tiles::tile_side;
 
 // A column's first tile, and the weight of the next one.
-#[derive(Drop)]
+#[derive(Clone, Copy)]
 pub struct Column {
     pub first: usize,
     pub weight: f64,

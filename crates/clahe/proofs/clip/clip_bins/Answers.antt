@@ -1,0 +1,25 @@
+-- `clahe::clip::clip_bins` meets its contract. The invariant: the bins before b are clipped, the others as they were. Assumes nothing.
+use Rattle.std.proofs.Common.{map, arith, length-set}
+use lib.ListN.{length-map}
+use Rattle.spec.specs.Clahe.{clipped}
+use Rattle.clahe.proofs.InPlace.{turned_none, turned_next, turned_all}
+use Rattle.clahe.proofs.Cells.{map_at}
+use Rattle.clahe.proofs.clip.clip_bins.Goals as goal
+
+pub loop-b-init : goal.loop-b-init
+loop-b-init c =
+    (omega arith, omega arith, turned_none (λ k h. clipped c.args.limit h) c.args.hist.now)
+
+pub loop-b-preserved : goal.loop-b-preserved
+loop-b-preserved c =
+    let a = c.args in (
+      omega arith,
+      simp length-set (omega arith),
+      turned_next (λ k h. clipped a.limit h) a.hist.now c.loop-b.b c.loop-b.hist _ c.loop-b.invariant.2 (omega arith) c.clipped.ensures,
+    )
+
+pub returns : goal.returns
+returns c =
+    let a = c.args in
+    turned_all (λ k h. clipped a.limit h) a.hist.now c.loop-b.b c.loop-b.hist (map (clipped a.limit) a.hist.now) c.loop-b.invariant.2 (omega arith)
+    (length-map a.hist.now (clipped a.limit)) (λ k h. map_at (clipped a.limit) 0 0 a.hist.now k h)
