@@ -3,23 +3,20 @@ use mathlib.Core.Path.{◌≡◌, refl, sym, ap, ◌∙◌}
 use mathlib.Core.Bool.{Bool, true, false, ◌||◌, true≢false}
 use mathlib.Core.List.{List, [], ◌∷◌}
 use Prim.Native.Nat.{ℕ, ◌*◌}
-use types.Run.{OneOf}
-use denote.Enum.Declared.{tag_of}
 use lib.Ieee.{Float}
 use Rattle.types.specs.declared.AutoscaleStrategy.{AutoscaleStrategy}
 use Rattle.types.specs.declared.WindowAnswer.{WindowAnswer}
 use Rattle.types.specs.declared.WindowAnswer.TheVariants.{Refused}
-use Rattle.types.specs.contracts.WindowAnswer.{the_type}
 use Rattle.spec.specs.Answer.{first_of}
 use Rattle.spec.specs.Grey.{grey_tests}
 use Rattle.spec.specs.Pixels.{Pixel, pixels}
-use Rattle.spec.specs.Refusals.{sides_refused, lengths_refused, unlike, work_refused, marks_refused, decibels_refused, tiles_refused}
+use Rattle.spec.specs.Refusals.{sides_refused, lengths_refused, unlike, work_refused, marks_refused, decibels_refused}
 use Rattle.spec.specs.Statistics.{statistics_of}
 use Rattle.spec.specs.Window.{window_of, gamma_refused}
 use Rattle.autoscale.specs.Bands.{band_window}
 use Rattle.pipeline.specs.Windows.{window_tiles_refused, unless, grey_window, grey_window16}
 use Rattle.pipeline.proofs.Tests.{at_shape, at-four, at_five, at_none}
-use Rattle.pipeline.proofs.Windowed.{window_open, tiles_window, banded_bad, banded_good}
+use Rattle.pipeline.proofs.Windowed.{NotRefused, window_open, tiles_window, banded_bad, banded_good}
 
 module _ (strategy : AutoscaleStrategy) (rows cols : ℕ) (m : List ℕ) (d : List Float) (out work : ℕ) where
   abbrev px : List Pixel
@@ -48,7 +45,7 @@ module _ (strategy : AutoscaleStrategy) (rows cols : ℕ) (m : List ℕ) (d : Li
         let b = banded_bad w0 w (decibels_refused px) k (window_open strategy (statistics_of px)) q e in
         ap Refused (sym b.1) ∙ at-four Refused w0 _ _ _ _ _ good b.0
 
-    module _ (unrefused : OneOf (0 ∷ 1 ∷ []) (tag_of the_type w)) where
+    module _ (unrefused : NotRefused w) where
       known : (decibels_refused px ≡ false) × (w ≡ w0)
       unfolding band_window
       known = banded_good w0 w (decibels_refused px) q unrefused

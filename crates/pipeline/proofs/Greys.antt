@@ -3,8 +3,6 @@ use mathlib.Core.Path.{◌≡◌, refl, sym, ap, ◌∙◌}
 use mathlib.Core.Bool.{Bool, true, false, ◌||◌}
 use mathlib.Core.List.{List, [], ◌∷◌, ◌++◌, map}
 use Prim.Native.Nat.{ℕ, zero, suc, ◌*◌}
-use types.Run.{OneOf, miss}
-use denote.Enum.Declared.{tag_of}
 use borrow.Author.Tests.{not-false}
 use lib.ListN.{length}
 use lib.Ieee.{Float, ne}
@@ -12,7 +10,6 @@ use Rattle.types.specs.declared.AutoscaleStrategy.{AutoscaleStrategy}
 use Rattle.types.specs.declared.AutoscaleStrategy.TheVariants.{Clahe}
 use Rattle.types.specs.declared.WindowAnswer.{WindowAnswer}
 use Rattle.types.specs.declared.WindowAnswer.TheVariants.{Window, Blank, Refused}
-use Rattle.types.specs.contracts.WindowAnswer.{the_type}
 use Rattle.spec.specs.Answer.{Answer, refused, done, first_of, or_refused, answer, number, after}
 use Rattle.spec.specs.Pixels.{Pixel, pixels}
 use Rattle.spec.specs.Statistics.{statistics_of}
@@ -30,7 +27,8 @@ use Rattle.pipeline.specs.Ready.{Ready}
 use Rattle.pipeline.specs.Windows.{unless, grey_window, grey_window16}
 use Rattle.pipeline.specs.Work.{uses, Kept}
 use Rattle.pipeline.proofs.Accepted.{grey_ready}
-use Rattle.pipeline.proofs.Windowed.{window_open}
+use Rattle.pipeline.proofs.Windowed.{NotRefused, window_open}
+use Rattle.autoscale.proofs.Painted.{NoWindow}
 
 -- ---- a window that painting starts from
 
@@ -64,10 +62,10 @@ unfolding unless answer or_refused
 unless-number zero w0 k o e a = absurd (o k e)
 unless-number (suc j) w0 k o e a = ap refused (let z : suc j ≡ k = cc in z)
 
-unless-window : (n : ℕ) (w0 w : WindowAnswer) → w ≡ unless Refused n w0 → OneOf (0 ∷ 1 ∷ []) (tag_of the_type w) → (n ≡ 0) × (w ≡ w0)
+unless-window : (n : ℕ) (w0 w : WindowAnswer) → w ≡ unless Refused n w0 → NotRefused w → (n ≡ 0) × (w ≡ w0)
 unfolding unless
 unless-window zero w0 w e h = (refl, e)
-unless-window (suc k) w0 w e h = absurd (miss (0 ∷ 1 ∷ []) 2 tt (rw e at h))
+unless-window (suc k) w0 w e h = absurd (h (suc k) e)
 
 -- what a call owes, once its answer is known
 module _ (strategy : AutoscaleStrategy) (a : Answer (List ℕ)) (old : List ℕ) (work : List Float) where
@@ -95,7 +93,7 @@ module _ (strategy : AutoscaleStrategy) (rows cols : ℕ) (m : List ℕ) (d : Li
     pub tests_refused : (k : ℕ) → w ≡ Refused k → Owed strategy (answer n (g w0)) out work k out work
     tests_refused k e = owed_refused strategy (answer n (g w0)) out work k (unless-number n w0 k (window_open strategy (statistics_of (pixels m d))) (sym is ∙ e) (g w0))
 
-    module _ (unrefused : OneOf (0 ∷ 1 ∷ []) (tag_of the_type w)) where
+    module _ (unrefused : NotRefused w) where
       pub tests_known : (n ≡ 0) × (w ≡ w0)
       tests_known = unless-window n w0 w is unrefused
 
@@ -117,7 +115,7 @@ module _ (strategy : AutoscaleStrategy) (rows cols : ℕ) (m : List ℕ) (d : Li
   unfolding grey_window grey_tests
   grey-refused k e = tests_refused strategy rows cols m d out work g w _ is k e
 
-  module _ (unrefused : OneOf (0 ∷ 1 ∷ []) (tag_of the_type w)) where
+  module _ (unrefused : NotRefused w) where
     pub grey_asks : Ready strategy (record { rows = rows; cols = cols }) m d (length out) (length work)
     unfolding grey_window grey_tests
     grey_asks = tests_ask strategy rows cols m d out work g w _ is unrefused
@@ -143,7 +141,7 @@ module _ (strategy : AutoscaleStrategy) (rows cols : ℕ) (m : List ℕ) (d : Li
   unfolding grey_window16 grey_tests
   grey16_refused k e = tests_refused strategy rows cols m d out work g w _ is k e
 
-  module _ (unrefused : OneOf (0 ∷ 1 ∷ []) (tag_of the_type w)) where
+  module _ (unrefused : NotRefused w) where
     pub grey16_asks : Ready strategy (record { rows = rows; cols = cols }) m d (length out) (length work)
     unfolding grey_window16 grey_tests
     grey16_asks = tests_ask strategy rows cols m d out work g w _ is unrefused
@@ -161,10 +159,10 @@ module _ (strategy : AutoscaleStrategy) (rows cols : ℕ) (m : List ℕ) (d : Li
 -- ---- by Clahe
 
 -- without a window the values are those outside Clahe
-pub values-none : (depth : BitDepth) (strategy : AutoscaleStrategy) (rows cols : ℕ) (px : List Pixel) (w : WindowAnswer) → OneOf (1 ∷ 2 ∷ []) (tag_of the_type w) →
+pub values-none : (depth : BitDepth) (strategy : AutoscaleStrategy) (rows cols : ℕ) (px : List Pixel) (w : WindowAnswer) → NoWindow w →
     plain_values depth px w ≡ values depth strategy rows cols px w
 unfolding values
-values-none depth strategy rows cols px (Window low high range gamma) h = absurd (miss (1 ∷ 2 ∷ []) 0 tt h)
+values-none depth strategy rows cols px (Window low high range gamma) h = absurd (h low high range gamma refl)
 values-none depth strategy rows cols px Blank h = refl
 values-none depth strategy rows cols px (Refused k) h = refl
 

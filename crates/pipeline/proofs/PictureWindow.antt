@@ -4,8 +4,6 @@ use mathlib.Core.Bool.{Bool, true, false, cond, ◌||◌}
 use mathlib.Core.List.{List, [], ◌∷◌}
 use Prim.Native.Nat.{ℕ, zero, suc}
 use native.Mathlib.Omega.{arith}
-use types.Run.{OneOf}
-use denote.Enum.Declared.{tag_of}
 use lib.Ieee.{Float}
 use Rattle.types.specs.declared.AutoscaleStrategy.{AutoscaleStrategy}
 use Rattle.types.specs.declared.CoPol.{CoPol}
@@ -13,10 +11,9 @@ use Rattle.types.specs.declared.PictureWindows.{PictureWindows}
 use Rattle.types.specs.declared.PictureWindows.TheVariants as Both
 use Rattle.types.specs.declared.WindowAnswer.{WindowAnswer}
 use Rattle.types.specs.declared.WindowAnswer.TheVariants.{Refused}
-use Rattle.types.specs.contracts.WindowAnswer.{the_type}
-use Rattle.spec.specs.Answer.{Answer, refused, first_of, or_refused, answer}
+use Rattle.spec.specs.Answer.{refused, first_of, or_refused, answer}
 use Rattle.types.specs.declared.Lent.{Lent}
-use Rattle.spec.specs.Copol.{first_is_copol, second_is_copol, TwoWindows, read_windows, synthetic_rgb_windows}
+use Rattle.spec.specs.Copol.{first_is_copol, second_is_copol, read_windows, synthetic_rgb_windows}
 use Rattle.spec.specs.Picture.{picture_tests}
 use Rattle.spec.specs.Pixels.{Pixel, pixels}
 use Rattle.spec.specs.Refusals.{sides_refused, lengths_refused, marks_refused, decibels_refused, tiles_refused}
@@ -26,7 +23,7 @@ use Rattle.autoscale.specs.Bands.{band_picture_window}
 use Rattle.raster.proofs.Bands.{first_stays, first_later}
 use Rattle.pipeline.specs.Windows.{window_tiles_refused, picture_lengths_refused, answered_windows, both_windows, picture_windows}
 use Rattle.pipeline.proofs.Tests.{at_shape, at-four, at_five, at_none}
-use Rattle.pipeline.proofs.Windowed.{picture_open, tiles_picture, banded_bad, banded_good}
+use Rattle.pipeline.proofs.Windowed.{NotRefused, picture_open, tiles_picture, banded_bad, banded_good}
 
 -- a test over both bands
 either_first : {a : Bool} (b : Bool) → a ≡ true → (a || b) ≡ true
@@ -78,7 +75,7 @@ module _ (strategy : AutoscaleStrategy) (copol : CoPol) (px1 px2 : List Pixel) w
         let b = banded_bad w01 w1 (decibels_refused px1) k (picture_open strategy (first_is_copol copol) (statistics_of px1)) banded1 e in
         ap Both.Refused (sym b.1) ∙ at_once true (either_first (decibels_refused px2) b.0)
 
-    module _ (o1 : OneOf (0 ∷ 1 ∷ []) (tag_of the_type w1)) (c2 : Bool) (is2 : c2 ≡ second_is_copol copol) (w2 : WindowAnswer) (q2 : w2 ≡ band_picture_window strategy c2 px2) where
+    module _ (o1 : NotRefused w1) (c2 : Bool) (is2 : c2 ≡ second_is_copol copol) (w2 : WindowAnswer) (q2 : w2 ≡ band_picture_window strategy c2 px2) where
       good1 : (decibels_refused px1 ≡ false) × (w1 ≡ w01)
       good1 = banded_good w01 w1 (decibels_refused px1) banded1 o1
 
@@ -91,7 +88,7 @@ module _ (strategy : AutoscaleStrategy) (copol : CoPol) (px1 px2 : List Pixel) w
           let b = banded_bad w02 w2 (decibels_refused px2) k (picture_open strategy (second_is_copol copol) (statistics_of px2)) banded2 e in
           ap Both.Refused (sym b.1) ∙ at_once true (either_second good1.0 b.0)
 
-      pub both_good : OneOf (0 ∷ 1 ∷ []) (tag_of the_type w2) → Both.Windows w1 w2 ≡ both_windows strategy copol px1 px2
+      pub both_good : NotRefused w2 → Both.Windows w1 w2 ≡ both_windows strategy copol px1 px2
       both_good o2 =
           let good2 = banded_good w02 w2 (decibels_refused px2) banded2 o2 in
           ap (λ (w : WindowAnswer). Both.Windows w w2) good1.1 ∙ ap (λ (w : WindowAnswer). Both.Windows w01 w) good2.1

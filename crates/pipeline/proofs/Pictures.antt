@@ -1,6 +1,6 @@
 -- The picture call by the windows that `picture_windows` answers. Assumes nothing.
 use mathlib.Core.Path.{◌≡◌, refl, sym, ap, ◌∙◌}
-use mathlib.Core.Bool.{Bool, true, false, ◌||◌}
+use mathlib.Core.Bool.{Bool, true, false}
 use mathlib.Core.List.{List}
 use Prim.Native.Nat.{ℕ, zero, suc}
 use native.Mathlib.Omega.{arith}
@@ -11,7 +11,6 @@ use Rattle.types.specs.declared.CoPol.{CoPol}
 use Rattle.types.specs.declared.PictureWindows.{PictureWindows}
 use Rattle.types.specs.declared.PictureWindows.TheVariants as Both
 use Rattle.types.specs.declared.WindowAnswer.{WindowAnswer}
-use Rattle.types.specs.declared.WindowAnswer.TheVariants.{Refused}
 use Rattle.spec.specs.Answer.{Answer, refused, done, first_of, or_refused, answer, number, after}
 use Rattle.spec.specs.Colour.{bytes_of, colours_of}
 use Rattle.spec.specs.Copol.{first_is_copol, second_is_copol}

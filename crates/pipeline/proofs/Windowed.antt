@@ -5,8 +5,6 @@ use mathlib.Core.List.{List, [], ◌∷◌}
 use Prim.Native.Nat.{ℕ, suc}
 use native.Mathlib.Omega.{arith}
 use borrow.Author.Tests.{ne_eqb}
-use types.Run.{OneOf, miss}
-use denote.Enum.Declared.{tag_of}
 use lib.Dec.{eqb}
 use lib.ListN.{length}
 use Rattle.types.specs.declared.AutoscaleStrategy.{AutoscaleStrategy}
@@ -14,7 +12,6 @@ use Rattle.types.specs.declared.Clip.{Clip}
 use Rattle.types.specs.declared.HistogramStats.{HistogramStats}
 use Rattle.types.specs.declared.WindowAnswer.{WindowAnswer}
 use Rattle.types.specs.declared.WindowAnswer.TheVariants.{Window, Blank, Refused}
-use Rattle.types.specs.contracts.WindowAnswer.{the_type}
 use Rattle.spec.specs.Lists.{any}
 use Rattle.spec.specs.Pixels.{Pixel, off, on, valid_of, is_on}
 use Rattle.spec.specs.Refusals.{side_refused, tiles_refused}
@@ -22,7 +19,12 @@ use Rattle.spec.specs.Statistics.{statistics_of}
 use Rattle.spec.specs.Strategies.{is_clahe, is_tamed}
 use Rattle.spec.specs.Window.{opened, choose_clip, tamed_clip, window_of, picture_window}
 use Rattle.histogram.proofs.Counting.{count-valid}
+use Rattle.autoscale.proofs.Painted.{NoWindow}
 use Rattle.pipeline.specs.Windows.{has_window, window_tiles_refused}
+
+-- a window, or blank
+abbrev pub NotRefused : WindowAnswer → Type 0
+NotRefused w = (k : ℕ) → w ≡ Refused k → ⊥
 
 -- ---- no refusal by itself
 
@@ -76,9 +78,9 @@ module _ (strategy : AutoscaleStrategy) (rows cols : ℕ) (px : List Pixel) wher
   pub tiles_picture : (copol : Bool) (w : WindowAnswer) → w ≡ picture_window strategy copol (statistics_of px) → window_tiles_refused strategy rows cols w ≡ tiles_refused strategy rows cols px
   tiles_picture copol w e = tiles_by w (ap has_window e ∙ has_picture strategy copol px)
 
-pub tiles_none : (strategy : AutoscaleStrategy) (rows cols : ℕ) (w : WindowAnswer) → OneOf (1 ∷ 2 ∷ []) (tag_of the_type w) → false ≡ window_tiles_refused strategy rows cols w
+pub tiles_none : (strategy : AutoscaleStrategy) (rows cols : ℕ) (w : WindowAnswer) → NoWindow w → false ≡ window_tiles_refused strategy rows cols w
 unfolding window_tiles_refused has_window
-tiles_none strategy rows cols (Window low high range gamma) h = absurd (miss (1 ∷ 2 ∷ []) 0 tt h)
+tiles_none strategy rows cols (Window low high range gamma) h = absurd (h low high range gamma refl)
 tiles_none strategy rows cols Blank h = none (is_clahe strategy)
   where
     none : (b : Bool) → false ≡ (b && false && (side_refused rows || side_refused cols))
@@ -97,6 +99,6 @@ module _ (w0 w : WindowAnswer) where
   banded_bad true k n e f = (refl, cc)
   banded_bad false k n e f = absurd (n k (sym e ∙ f))
 
-  pub banded_good : (b : Bool) → w ≡ cond b (Refused 4) w0 → OneOf (0 ∷ 1 ∷ []) (tag_of the_type w) → (b ≡ false) × (w ≡ w0)
-  banded_good true e h = absurd (miss (0 ∷ 1 ∷ []) 2 tt (rw e at h))
+  pub banded_good : (b : Bool) → w ≡ cond b (Refused 4) w0 → NotRefused w → (b ≡ false) × (w ≡ w0)
+  banded_good true e h = absurd (h 4 e)
   banded_good false e h = (refl, e)

@@ -1,3 +1,4 @@
+#![tactic(auto)]
 // The calls that chain the parts: grey at 8 and at 16 bits, the picture of two bands and its windows.
 mod strategies; // strategies.rt: the strategies that stand apart
 mod windows; // windows.rt: the refusals of a call and the windows of its bands
