@@ -249,13 +249,13 @@ beside =
       blank = is_blank;
       only_blank = none_marked;
       mean_unread = window_unread;
-      picture-mean_unread = picture_unread;
+      picture_mean_unread = picture_unread;
       bins_unread = window-bins_unread;
-      picture-bins_unread = picture-window-bins_unread;
+      picture_bins_unread = picture-window-bins_unread;
       place_unread = window_place_unread;
       picture_place_unread = picture-window_place_unread;
       placed = placed_is;
-      picture_greys_lem = λ choices n rows cols m1 d1 m2 d2 lent. picture-grey choices (not_tamed choices.strategy n) rows cols m1 d1 m2 d2 lent;
-      picture-modes = λ choices mode rows cols m1 d1 m2 d2 lent. refl;
+      picture_greys = λ choices n rows cols m1 d1 m2 d2 lent. picture-grey choices (not_tamed choices.strategy n) rows cols m1 d1 m2 d2 lent;
+      picture_modes = λ choices mode rows cols m1 d1 m2 d2 lent. refl;
       composition_modes = λ strategy mode mode' band1 band2 out. refl;
     }

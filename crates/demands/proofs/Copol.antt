@@ -11,7 +11,7 @@ use Rattle.types.specs.declared.Lent.{Lent}
 use Rattle.types.specs.declared.PictureChoices.{PictureChoices}
 use Rattle.types.specs.declared.SyntheticRgbMode.{SyntheticRgbMode}
 use Rattle.types.specs.declared.WindowAnswer.{WindowAnswer}
-use Rattle.spec.specs.Answer.{Answer, done, first_of, or_refused, answer, number}
+use Rattle.spec.specs.Answer.{done, first_of, or_refused, answer, number}
 use Rattle.spec.specs.Colour.{colours_of}
 use Rattle.spec.specs.Copol.{first_is_copol, second_is_copol, TwoWindows, windows_of, synthetic_rgb_picture_copol, synthetic_rgb_windows}
 use Rattle.spec.specs.Picture.{Picture, picture_greys, composed, picture_tests, synthetic_rgb_picture}
@@ -19,7 +19,7 @@ use Rattle.spec.specs.Pixels.{Pixel, pixels}
 use Rattle.spec.specs.Refusals.{sides_refused, lengths_refused, unlike, work_refused, marks_refused, decibels_refused, tiles_refused}
 use Rattle.spec.specs.Statistics.{statistics_of}
 use Rattle.spec.specs.Strategies.{is_tamed}
-use Rattle.spec.specs.Window.{window_of, picture_window}
+use Rattle.spec.specs.Window.{window_of}
 use Rattle.lists.proofs.Replies.{done-answer, none_holds, all_clear, or_left}
 use Rattle.demands.specs.Copol.{Copol, told, other_band, swapped_lent, swapped_picture, swapped_windows}
 use Rattle.demands.proofs.Beside.{or_zero, not_tamed, window_same}
@@ -186,5 +186,5 @@ copol =
       colours = colours_are;
       painted = painted_is;
       swapped = λ strategy mode c rows cols m1 d1 m2 d2 lent. swapped_is strategy rows cols m1 d1 m2 d2 lent mode c;
-      swapped-windows = λ strategy c rows cols m1 d1 m2 d2. windows-swapped strategy rows cols m1 d1 m2 d2 c;
+      swapped_windows = λ strategy c rows cols m1 d1 m2 d2. windows-swapped strategy rows cols m1 d1 m2 d2 c;
     }

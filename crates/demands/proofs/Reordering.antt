@@ -14,7 +14,6 @@ use Rattle.types.specs.declared.PictureChoices.{PictureChoices}
 use Rattle.types.specs.declared.Place.{Place}
 use Rattle.types.specs.declared.Rgb.{Rgb}
 use Rattle.spec.specs.Number.{Alike, same}
-use Rattle.types.specs.declared.HistogramStats.{HistogramStats}
 use Rattle.spec.specs.Answer.{Answer, refused, done, first_of, or_refused, answer}
 use Rattle.spec.specs.Lists.{any}
 use Rattle.spec.specs.Pixels.{Pixel, off, on, pixel, pixels, valid_of}
@@ -31,7 +30,7 @@ use Rattle.spec.specs.Places.{Order, moved, dark, moved_picture}
 use Rattle.lists.proofs.Reorder.{perm_length, valid_perm, moved_perm}
 use Rattle.numeric.proofs.Order.{Number, number_of_finite}
 use Rattle.raster.proofs.Bands.{or_false}
-use Rattle.demands.specs.Reordering.{Reorders, AreF64, moved_triples, MovedBy, same_refusal, both_done, SameBins, refused_alike, same-bins, Reordering}
+use Rattle.demands.specs.Reordering.{Reorders, AreF64, moved_triples, MovedBy, same_refusal, both_done, SameBins, refused_alike, same_bins, Reordering}
 use Rattle.demands.proofs.Accepted.{good_finite}
 use Rattle.demands.proofs.Painted.{not_clahe}
 use Rattle.demands.proofs.Counted.{moments_count}
@@ -111,7 +110,7 @@ module _ (ps : List ℕ) (n : ℕ) (o : Order ps n) (m : List ℕ) (d : List Flo
     bins-same =
         rw (moved-pixels ps n o m d e f, named_moved ps n o rows cols m d e f, mark_moved ps n o m e, decibel_moved ps n o (pixels m d) (pixels-size ps n o m d e f))
         (each_alike SameBins refused_alike (sides_refused rows cols) (lengths_refused rows cols m d) (marks_refused m) (decibels_refused (pixels m d))
-        (λ g. same-bins (band_numbers _ _ g).p05_bin (band_numbers _ _ g).p95_bin))
+        (λ g. same_bins (band_numbers _ _ g).p05_bin (band_numbers _ _ g).p95_bin))
 
     curve-same : (out : ℕ) → compute_histogram rows cols (moved 0 ps m) (moved nan ps d) out ≡ compute_histogram rows cols m d out
     unfolding compute_histogram first_of answer or_refused

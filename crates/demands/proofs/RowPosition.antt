@@ -1,11 +1,11 @@
 -- A row's results follow from its position, its pixels and the tile sums, and scaled they are the values of document 01. Assumes nothing.
 use mathlib.Core.Path.{◌≡◌, refl, sym, ap, ◌∙◌}
 use mathlib.Core.List.{List, [], ◌∷◌, map, zip_with}
-use Prim.Native.Nat.{ℕ, ◌+◌, ◌*◌, ◌/◌, ◌%◌, ◌≤◌, ◌<◌}
+use Prim.Native.Nat.{ℕ, ◌+◌, ◌*◌, ◌%◌, ◌≤◌, ◌<◌}
 use native.Mathlib.Nat.{mul-le-mul_right}
 use native.Mathlib.Omega.{arith}
-use lib.Ieee.{Float, nan, binary64, mul, of_bits, to_unsigned}
-use lib.ListN.{length, get_or, take, drop, length-drop, length-map}
+use lib.Ieee.{Float, nan, mul, of_bits, to_unsigned}
+use lib.ListN.{length, get_or, drop, length-drop, length-map}
 use lib.Seq.{length-take-le, get_or-take, get_or-drop, ext_get_or}
 use Rattle.types.specs.declared.TilePosition.{TilePosition}
 use Rattle.spec.specs.Floats.{zero64, one64, clamp_float}

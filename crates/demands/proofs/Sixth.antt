@@ -1,6 +1,6 @@
 -- The calls at U8 are those before F-1 wherever these did not answer 6, and done where they did. Assumes nothing.
-use mathlib.Core.Path.{◌≡◌, refl, sym, ap, ap₂, ◌∙◌}
-use mathlib.Core.Bool.{Bool, true, false, cond, ◌||◌, true≢false}
+use mathlib.Core.Path.{◌≡◌, refl, ap, ap₂}
+use mathlib.Core.Bool.{Bool, true, false, cond, true≢false}
 use mathlib.Core.List.{List, [], ◌∷◌, map}
 use Prim.Native.Nat.{ℕ}
 use native.Mathlib.Omega.{arith}
@@ -16,7 +16,7 @@ use Rattle.spec.specs.Answer.{first_of, or_refused, answer, number}
 use Rattle.spec.specs.Floats.{one64, max_float}
 use Rattle.spec.specs.Gamma.{U8, curve, curved, grey_value}
 use Rattle.spec.specs.Grey.{normal_pixel, values, grey_tests, autoscale_db_image_to_u8}
-use Rattle.spec.specs.Picture.{Picture, picture_greys, composed, picture_tests, synthetic_rgb_picture}
+use Rattle.spec.specs.Picture.{picture_greys, composed, picture_tests, synthetic_rgb_picture}
 use Rattle.spec.specs.Clahe.{clahe_values}
 use Rattle.spec.specs.Before.{values_before, grey_before, picture_before}
 use Rattle.spec.specs.Pixels.{Pixel, pixels}
@@ -114,4 +114,4 @@ module _ (strategy : AutoscaleStrategy) (mode : SyntheticRgbMode) (rows cols : �
   picture-done_is n = done-at_six _ _ _ _ _ _ _ _ n
 
 pub sixth : Sixth
-sixth = record { grey-same = grey-same_is; picture-same = picture-same_is; grey-done = grey-done_is; picture-done = picture-done_is }
+sixth = record { grey_same = grey-same_is; picture_same = picture-same_is; grey_done = grey-done_is; picture_done = picture-done_is }

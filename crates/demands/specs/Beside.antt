@@ -111,12 +111,12 @@ pub record Beside : Type 0 where
   -- only Adaptive reads the mean and the deviation
   pub mean_unread :
       (strategy : AutoscaleStrategy) → (strategy ≡ Adaptive → ⊥) → (s : HistogramStats) (m d : Float) → window_of strategy (with_mean m d s) ≡ window_of strategy s
-  pub picture-mean_unread :
+  pub picture_mean_unread :
       (strategy : AutoscaleStrategy) → (strategy ≡ Adaptive → ⊥) → (copol : Bool) (s : HistogramStats) (m d : Float) →
       picture_window strategy copol (with_mean m d s) ≡ picture_window strategy copol s
   -- document 02, F-6: "Pixel bytes are unaffected": no window reads the bins, and greys and colours read windows
   pub bins_unread : (strategy : AutoscaleStrategy) (s : HistogramStats) (b05 b95 : ℕ) → window_of strategy (with_bins b05 b95 s) ≡ window_of strategy s
-  pub picture-bins_unread :
+  pub picture_bins_unread :
       (strategy : AutoscaleStrategy) (copol : Bool) (s : HistogramStats) (b05 b95 : ℕ) → picture_window strategy copol (with_bins b05 b95 s) ≡ picture_window strategy copol s
   -- document 02, F-11: windows are taken from statistics without the place, and would be the same with any
   pub place_unread : (strategy : AutoscaleStrategy) (s : HistogramStats) (row col : ℕ) → window_of strategy (with_place row col s) ≡ window_of strategy s
@@ -126,13 +126,13 @@ pub record Beside : Type 0 where
   pub placed :
       (rows cols : ℕ) (marks : List ℕ) (db : List Float) (s : HistogramStats) → compute_histogram_stats rows cols marks db ≡ done s → s ≡ with_place s.max_row s.max_col (statistics_of (pixels marks db))
   -- outside Tamed the greys of a picture are those of the grey call at 8 bits
-  pub picture_greys_lem :
+  pub picture_greys :
       (choices : PictureChoices) → (choices.strategy ≡ Tamed → ⊥) → (rows cols : ℕ) (marks1 : List ℕ) (db1 : List Float) (marks2 : List ℕ) (db2 : List Float)
       (lent : Lent) (p : Picture) → synthetic_rgb_picture_copol choices rows cols marks1 db1 marks2 db2 lent ≡ done p →
       (autoscale_db_image_to_u8 choices.strategy rows cols marks1 db1 lent.grey1 lent.work ≡ done p.grey1)
       × (autoscale_db_image_to_u8 choices.strategy rows cols marks2 db2 lent.grey2 lent.work ≡ done p.grey2)
   -- "all modes agree"
-  pub picture-modes :
+  pub picture_modes :
       (choices : PictureChoices) (mode : SyntheticRgbMode) (rows cols : ℕ) (marks1 : List ℕ) (db1 : List Float) (marks2 : List ℕ) (db2 : List Float) (lent : Lent) →
       synthetic_rgb_picture_copol choices rows cols marks1 db1 marks2 db2 lent ≡ synthetic_rgb_picture_copol (record { strategy = choices.strategy; mode = mode; copol = choices.copol }) rows cols marks1 db1 marks2 db2 lent
   pub composition_modes :

@@ -76,6 +76,6 @@ pub record Copol : Type 0 where
       synthetic_rgb_picture_copol (told strategy mode (other_band copol)) rows cols marks2 db2 marks1 db1 (swapped_lent lent)
       ≡ swapped_picture strategy (synthetic_rgb_picture_copol (told strategy mode copol) rows cols marks1 db1 marks2 db2 lent)
   -- and so do the windows
-  pub swapped-windows :
+  pub swapped_windows :
       (strategy : AutoscaleStrategy) (copol : CoPol) (rows cols : ℕ) (marks1 : List ℕ) (db1 : List Float) (marks2 : List ℕ) (db2 : List Float) →
       synthetic_rgb_windows strategy (other_band copol) rows cols marks2 db2 marks1 db1 ≡ swapped_windows (synthetic_rgb_windows strategy copol rows cols marks1 db1 marks2 db2)

@@ -38,7 +38,7 @@ pub data MovedBy (ps : List ℕ) : Answer Picture → Answer Picture → Type 0 
 -- document 02, F-6: the same refusal, or the same bins of p05 and p95
 pub data SameBins : Answer HistogramStats → Answer HistogramStats → Type 0 where
   refused_alike : (k : ℕ) → SameBins (refused k) (refused k)
-  same-bins : {s t : HistogramStats} → s.p05_bin ≡ t.p05_bin → s.p95_bin ≡ t.p95_bin → SameBins (done s) (done t)
+  same_bins : {s t : HistogramStats} → s.p05_bin ≡ t.p05_bin → s.p95_bin ≡ t.p95_bin → SameBins (done s) (done t)
 
 -- "A reordering is one permutation of the places of four lists of one length, n or not: dB and marks of both bands."
 -- "the two scenes compared have the same sides, strategy, mode and lent lengths"; document 02, F-2: "A reordering keeps that choice with its band."
