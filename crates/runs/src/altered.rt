@@ -9,21 +9,21 @@ use types::{
 };
 
 // What two runs of the statistics call answer.
-#[derive(Drop)]
+#[derive(Clone, Copy)]
 struct StatisticsAnswers {
     first: StatisticsAnswer,
     second: StatisticsAnswer,
 }
 
 // What two runs of the window call answer.
-#[derive(Drop)]
+#[derive(Clone, Copy)]
 struct WindowAnswers {
     first: WindowAnswer,
     second: WindowAnswer,
 }
 
 // What two runs of the call for a picture's windows answer.
-#[derive(Drop)]
+#[derive(Clone, Copy)]
 struct PictureWindowsAnswers {
     first: PictureWindows,
     second: PictureWindows,

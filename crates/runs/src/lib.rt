@@ -1,3 +1,4 @@
+#![tactic(auto)]
 // Demand 3, and F-2's swap, of runs of the calls: each function runs a call, twice or once, and its contract says the demand of these runs.
 // What a call owes is taken from its own contract. The demand of the definitions is stated in demands/specs and proved in demands/proofs.
 mod altered; // altered.rt: two runs, on bands and on alterations of them
@@ -8,7 +9,7 @@ mod swapped; // swapped.rt: two runs, on two bands and on the same bands swapped
 use types::Reply;
 
 // What two runs reply.
-#[derive(Drop)]
+#[derive(Clone, Copy)]
 pub(crate) struct Replies {
     first: Reply,
     second: Reply,
