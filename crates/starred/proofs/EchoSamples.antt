@@ -5,4 +5,4 @@ use Rattle.starred.specs.EchoSamples.{EchoSamples}
 
 pub echo_samples : EchoSamples
 unfolding computing
-echo_samples = record { last = refl; first_of_equals = refl; invalid_skipped = refl; zero-first = refl; none-valid = refl; no_pixel = (refl, refl); not_a_number = refl }
+echo_samples = record { last = refl; first_of_equals = refl; invalid_skipped = refl; zero_first = refl; none_valid = refl; no_pixel = (refl, refl); not_a_number = refl }

@@ -5,4 +5,4 @@ use Rattle.starred.specs.GammaSamples.{GammaSamples}
 
 pub gamma_samples : GammaSamples
 unfolding computing
-gamma_samples = record { half = refl; one = refl; none = refl; below = refl; beyond = refl; narrow_u8 = refl; narrow_u16 = refl; wide-u8 = refl; wide_u16 = refl }
+gamma_samples = record { half = refl; one = refl; none = refl; below = refl; beyond = refl; narrow_u8 = refl; narrow_u16 = refl; wide_u8 = refl; wide_u16 = refl }

@@ -8,14 +8,14 @@ unfolding computing
 starred =
     record {
       ten = refl;
-      ten-p05 = refl;
-      ten-p95 = refl;
-      ten-u8 = refl;
+      ten_p05 = refl;
+      ten_p95 = refl;
+      ten_u8 = refl;
       half_u16 = refl;
-      half-u8 = refl;
+      half_u8 = refl;
       one = refl;
       one_all = refl;
-      one-u8 = refl;
+      one_u8 = refl;
       one_u16 = refl;
       fourteen_u8 = refl;
       fourteen_u16 = refl;
@@ -23,25 +23,25 @@ starred =
       fifteen_u16 = refl;
       forty_u8 = refl;
       forty_u16 = refl;
-      forty_one-u8 = refl;
+      forty_one_u8 = refl;
       forty_one_u16 = refl;
       stretch_012 = refl;
       stretch_777 = refl;
       colour_full = refl;
-      colour-red = refl;
-      colour-dark = refl;
+      colour_red = refl;
+      colour_dark = refl;
       above_floor = refl;
       above_full = refl;
-      above-red = refl;
-      above-dark = refl;
+      above_red = refl;
+      above_dark = refl;
     }
 
 pub unstarred : Unstarred
 unfolding computing
 unstarred =
     record {
-      colour-green = refl;
-      above-green = refl;
+      colour_green = refl;
+      above_green = refl;
       four = refl;
       five = refl;
       pad = refl;

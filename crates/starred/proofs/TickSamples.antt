@@ -7,17 +7,17 @@ pub tick_samples : TickSamples
 unfolding computing
 tick_samples =
     record {
-      four-median = refl;
-      four-p05 = refl;
-      four-p95 = refl;
-      four-first = refl;
-      four-last = refl;
-      four-sum = refl;
-      level-p95 = refl;
-      level-first = refl;
-      one-p95 = refl;
-      blank-median = refl;
-      blank-sum = refl;
+      four_median = refl;
+      four_p05 = refl;
+      four_p95 = refl;
+      four_first = refl;
+      four_last = refl;
+      four_sum = refl;
+      level_p95 = refl;
+      level_first = refl;
+      one_p95 = refl;
+      blank_median = refl;
+      blank_sum = refl;
       short = refl;
       long_side = refl;
     }

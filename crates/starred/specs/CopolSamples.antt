@@ -8,7 +8,7 @@ use Rattle.types.specs.declared.CoPol.TheVariants.{Band1, Band2}
 use Rattle.types.specs.declared.SyntheticRgbMode.TheVariants.{Default as Plain}
 use Rattle.types.specs.declared.WindowAnswer.TheVariants.{Window, Blank}
 use Rattle.spec.specs.Answer.{Answer, refused, done, after}
-use Rattle.spec.specs.Copol.{TwoWindows, synthetic_rgb_picture_copol, synthetic_rgb_windows}
+use Rattle.spec.specs.Copol.{synthetic_rgb_picture_copol, synthetic_rgb_windows}
 use Rattle.spec.specs.Floats.{of_count, one64}
 use Rattle.spec.specs.Picture.{Picture}
 

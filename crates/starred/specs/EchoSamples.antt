@@ -23,8 +23,8 @@ pub record EchoSamples : Type 0 where
   -- an invalid pixel counts for the place, and not for the maximum
   pub invalid_skipped : echo (0 ∷ 1 ∷ 1 ∷ 0 ∷ []) (of_count 9 ∷ of_count 3 ∷ of_count 5 ∷ nan ∷ []) ≡ record { row = 1; col = 0 }
   -- -0 and 0 are equal: the first met
-  pub zero-first : echo (1 ∷ 1 ∷ []) (minus_zero ∷ of_count 0 ∷ []) ≡ record { row = 0; col = 0 }
+  pub zero_first : echo (1 ∷ 1 ∷ []) (minus_zero ∷ of_count 0 ∷ []) ≡ record { row = 0; col = 0 }
   -- "0 and 0 without one"
-  pub none-valid : echo (0 ∷ 0 ∷ 0 ∷ 0 ∷ []) (of_count 1 ∷ of_count 2 ∷ of_count 3 ∷ of_count 4 ∷ []) ≡ record { row = 0; col = 0 }
+  pub none_valid : echo (0 ∷ 0 ∷ 0 ∷ 0 ∷ []) (of_count 1 ∷ of_count 2 ∷ of_count 3 ∷ of_count 4 ∷ []) ≡ record { row = 0; col = 0 }
   pub no_pixel : ((placed_statistics 0 []).max_row ≡ 0) × ((placed_statistics 0 []).max_col ≡ 0)
   pub not_a_number : compute_histogram_stats 1 2 (1 ∷ 1 ∷ []) (of_count 1 ∷ nan ∷ []) ≡ refused 4

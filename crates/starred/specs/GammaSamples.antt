@@ -1,5 +1,5 @@
 -- Document 02, F-1, on numbers and small bands. Statements only: the proofs are in proofs/.
-use Rattle.std.specs.Prelude.{ℕ, ◌≡◌, List, [], ◌∷◌, map, Float}
+use Rattle.std.specs.Prelude.{ℕ, ◌≡◌, List, [], ◌∷◌, Float}
 use Rattle.std.specs.Float.{binary64}
 use Rattle.std.specs.Float.Ieee.{of_bits}
 use Rattle.types.specs.declared.AutoscaleStrategy.TheVariants.{Standard}
@@ -23,5 +23,5 @@ pub record GammaSamples : Type 0 where
   -- Standard with gamma 1.1 and with 0.9: "done at U8", 6 at U16
   pub narrow_u8 : u8 Standard (of_count 0 ∷ of_count 7 ∷ of_count 14 ∷ []) ≡ done (0 ∷ 118 ∷ 255 ∷ [])
   pub narrow_u16 : u16 Standard (of_count 0 ∷ of_count 7 ∷ of_count 14 ∷ []) ≡ refused 6
-  pub wide-u8 : u8 Standard (of_count 0 ∷ of_count 21 ∷ of_count 42 ∷ []) ≡ done (0 ∷ 136 ∷ 255 ∷ [])
+  pub wide_u8 : u8 Standard (of_count 0 ∷ of_count 21 ∷ of_count 42 ∷ []) ≡ done (0 ∷ 136 ∷ 255 ∷ [])
   pub wide_u16 : u16 Standard (of_count 0 ∷ of_count 21 ∷ of_count 42 ∷ []) ≡ refused 6

@@ -47,16 +47,16 @@ deep = neg (of_bits binary64 0x4029_0000_0000_0000)
 pub record Starred : Type 0 where
   -- "dB 0, 10, Default: p05 = 0, p95 = 9.99755859375, U8 grey 0, 255"
   pub ten : statistics (of_count 0 ∷ of_count 10 ∷ []) ≡ done (stats (of_count 0 ∷ of_count 10 ∷ []))
-  pub ten-p05 : (stats (of_count 0 ∷ of_count 10 ∷ [])).p05 ≡ zero64
-  pub ten-p95 : (stats (of_count 0 ∷ of_count 10 ∷ [])).p95 ≡ of_bits binary64 0x4023_fec0_0000_0000
-  pub ten-u8 : u8 Default (of_count 0 ∷ of_count 10 ∷ []) ≡ done (0 ∷ 255 ∷ [])
+  pub ten_p05 : (stats (of_count 0 ∷ of_count 10 ∷ [])).p05 ≡ zero64
+  pub ten_p95 : (stats (of_count 0 ∷ of_count 10 ∷ [])).p95 ≡ of_bits binary64 0x4023_fec0_0000_0000
+  pub ten_u8 : u8 Default (of_count 0 ∷ of_count 10 ∷ []) ≡ done (0 ∷ 255 ∷ [])
   -- "0, 0.5, Default: U16 grey 0, 32759; U8 0, 255"
   pub half_u16 : u16 Default (of_count 0 ∷ half64 ∷ []) ≡ done (0 ∷ 32759 ∷ [])
-  pub half-u8 : u8 Default (of_count 0 ∷ half64 ∷ []) ≡ done (0 ∷ 255 ∷ [])
+  pub half_u8 : u8 Default (of_count 0 ∷ half64 ∷ []) ≡ done (0 ∷ 255 ∷ [])
   -- "One pixel -12.5, Default: all percentiles -12.5, grey 0"
   pub one : statistics (deep ∷ []) ≡ done (stats (deep ∷ []))
   pub one_all : percentiles (stats (deep ∷ [])) ≡ replicate 11 deep
-  pub one-u8 : u8 Default (deep ∷ []) ≡ done (0 ∷ [])
+  pub one_u8 : u8 Default (deep ∷ []) ≡ done (0 ∷ [])
   pub one_u16 : u16 Default (deep ∷ []) ≡ done (0 ∷ [])
   -- "Standard: 0, 14 refused 6; 0, 15 done; 0, 40 done; 0, 41 refused 6"; F-1: at U16 alone, "done at U8"
   pub fourteen_u8 : u8 Standard (of_count 0 ∷ of_count 14 ∷ []) ≡ done (0 ∷ 255 ∷ [])
@@ -65,27 +65,27 @@ pub record Starred : Type 0 where
   pub fifteen_u16 : number (u16 Standard (of_count 0 ∷ of_count 15 ∷ [])) ≡ 0
   pub forty_u8 : number (u8 Standard (of_count 0 ∷ of_count 40 ∷ [])) ≡ 0
   pub forty_u16 : number (u16 Standard (of_count 0 ∷ of_count 40 ∷ [])) ≡ 0
-  pub forty_one-u8 : u8 Standard (of_count 0 ∷ of_count 41 ∷ []) ≡ done (0 ∷ 255 ∷ [])
+  pub forty_one_u8 : u8 Standard (of_count 0 ∷ of_count 41 ∷ []) ≡ done (0 ∷ 255 ∷ [])
   pub forty_one_u16 : u16 Standard (of_count 0 ∷ of_count 41 ∷ []) ≡ refused 6
   -- "Stretch 0, 1, 2: 0, 128, 255. 7, 7, 7: zeros"
   pub stretch_012 : scale_u16_to_u8 (0 ∷ 1 ∷ 2 ∷ []) 3 ≡ done (0 ∷ 128 ∷ 255 ∷ [])
   pub stretch_777 : scale_u16_to_u8 (7 ∷ 7 ∷ 7 ∷ []) 3 ≡ done (0 ∷ 0 ∷ 0 ∷ [])
   -- "Default (255,255): 255, 255, 61. (255,1): 255, 2, 99. (1,1): 5, 2, 67"
   pub colour_full : colour 255 255 ≡ done (255 ∷ 255 ∷ 61 ∷ [])
-  pub colour-red : colour 255 1 ≡ done (255 ∷ 2 ∷ 99 ∷ [])
-  pub colour-dark : colour 1 1 ≡ done (5 ∷ 2 ∷ 67 ∷ [])
+  pub colour_red : colour 255 1 ≡ done (255 ∷ 2 ∷ 99 ∷ [])
+  pub colour_dark : colour 1 1 ≡ done (5 ∷ 2 ∷ 67 ∷ [])
   -- "Suppressed, one pixel, f = 3: (255,255): 255, 255, 46. (255,3): 255, 0, 65. (4,4): 0, 1, 45"
   pub above_floor : floor_level (255 ∷ []) (255 ∷ []) ≡ 3
   pub above_full : above 255 255 ≡ done (255 ∷ 255 ∷ 46 ∷ [])
-  pub above-red : above 255 3 ≡ done (255 ∷ 0 ∷ 65 ∷ [])
-  pub above-dark : above 4 4 ≡ done (0 ∷ 1 ∷ 45 ∷ [])
+  pub above_red : above 255 3 ≡ done (255 ∷ 0 ∷ 65 ∷ [])
+  pub above_dark : above 4 4 ≡ done (0 ∷ 1 ∷ 45 ∷ [])
 
 -- "tests run the rest"
 pub record Unstarred : Type 0 where
   -- "(0,255): 0, 255, 0"
-  pub colour-green : colour 0 255 ≡ done (0 ∷ 255 ∷ 0 ∷ [])
+  pub colour_green : colour 0 255 ≡ done (0 ∷ 255 ∷ 0 ∷ [])
   -- "(3,255): 0, 255, 32"
-  pub above-green : above 3 255 ≡ done (0 ∷ 255 ∷ 32 ∷ [])
+  pub above_green : above 3 255 ≡ done (0 ∷ 255 ∷ 32 ∷ [])
   -- "Four pixels of 200 in both bands: f = 3; five: f = 40"
   pub four : floor_level (replicate 4 200) (replicate 4 200) ≡ 3
   pub five : floor_level (replicate 5 200) (replicate 5 200) ≡ 40
