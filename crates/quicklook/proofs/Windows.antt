@@ -1,27 +1,23 @@
 -- What is left of a window by its case. Assumes nothing.
 use mathlib.Core.Path.{◌≡◌, refl}
-use mathlib.Core.List.{List, [], ◌∷◌}
-use Prim.Native.Nat.{ℕ}
-use types.Run.{OneOf, miss}
-use denote.Enum.Declared.{tag_of}
 use Rattle.types.specs.declared.WindowAnswer.{WindowAnswer}
 use Rattle.types.specs.declared.WindowAnswer.TheVariants.{Window, Blank, Refused}
 use Rattle.types.specs.declared.WindowFloats.{WindowFloats}
-use Rattle.types.specs.contracts.WindowAnswer.{the_type}
 use Rattle.spec.specs.Floats.{zero64}
+use Rattle.autoscale.proofs.Painted.{NoWindow}
 use Rattle.quicklook.specs.Numbers.{blank_mark, floats_or_zeros}
 
-pub not_blank : (w : WindowAnswer) → OneOf (0 ∷ 2 ∷ []) (tag_of the_type w) → 0 ≡ blank_mark w
+pub not_blank : (w : WindowAnswer) → (w ≡ Blank → ⊥) → 0 ≡ blank_mark w
 unfolding blank_mark
 not_blank (Window low high range gamma) h = refl
-not_blank Blank h = absurd (miss (0 ∷ 2 ∷ []) 1 tt h)
+not_blank Blank h = absurd (h refl)
 not_blank (Refused k) h = refl
 
 abbrev zeros : WindowFloats
 zeros = record { low = zero64; high = zero64; range = zero64; gamma = zero64 }
 
-pub no_floats : (w : WindowAnswer) → OneOf (1 ∷ 2 ∷ []) (tag_of the_type w) → zeros ≡ floats_or_zeros w
+pub no_floats : (w : WindowAnswer) → NoWindow w → zeros ≡ floats_or_zeros w
 unfolding floats_or_zeros
-no_floats (Window low high range gamma) h = absurd (miss (1 ∷ 2 ∷ []) 0 tt h)
+no_floats (Window low high range gamma) h = absurd (h low high range gamma refl)
 no_floats Blank h = refl
 no_floats (Refused k) h = refl

@@ -4,19 +4,19 @@ ghost use Rattle.quicklook.specs.Codes.{strategy_of, mode_of, copol_of};
 
 use types::{AutoscaleStrategy, CoPol, SyntheticRgbMode};
 
-#[derive(Drop)]
+#[derive(Clone, Copy)]
 pub enum StrategyCode {
     Names(AutoscaleStrategy),
     Nothing,
 }
 
-#[derive(Drop)]
+#[derive(Clone, Copy)]
 pub enum ModeCode {
     Names(SyntheticRgbMode),
     Nothing,
 }
 
-#[derive(Drop)]
+#[derive(Clone, Copy)]
 pub enum CopolCode {
     Names(CoPol),
     Nothing,

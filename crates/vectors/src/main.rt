@@ -1,10 +1,12 @@
+#![tactic(auto)]
 // Replays the stored vectors that no call of the archive reaches: steps on floats, and Clahe's tile sums and equalised pixels. Prints for
 // each file how many records it has and how many differ. The record format is in oracle/README.md; the calls' vectors are in tests/vectors.
-ghost use Rattle.std.specs.Prelude.{◌≡◌, ◌*◌, ◌<◌, ◌≤◌, length};
+ghost use Rattle.std.specs.Prelude.{◌≡◌, ◌*◌, ◌<◌, ◌≤◌, length, IfOk};
 ghost use Rattle.clahe.specs.Band.{Raster};
 
 use clahe::columns::Column;
-use libc::STDOUT_FILENO;
+use std::fs::File;
+use std::io::{self, Read};
 use types::{Sides, TilePosition, WindowFloats};
 
 // ---- the numbers of a record; 0 beyond its end
@@ -46,7 +48,7 @@ fn cols_of(b: &[u8]) -> usize {
 // ---- the lists of a record
 
 // How many bytes an element has, how many elements there are, where the first begins and where the next list does.
-#[derive(Drop)]
+#[derive(Clone, Copy)]
 struct List {
     width: u8,
     count: usize,
@@ -640,49 +642,66 @@ fn agrees(b: &[u8]) -> bool {
 }
 
 // What came of a record: none was left, or it agrees, or it differs.
-#[derive(Drop)]
+#[derive(Clone, Copy)]
 enum Outcome {
     End,
     Same,
     Differs,
 }
 
+// Fills the buffer as far as the file goes, and says how far that is.
+fn read_full(file: &mut File, buffer: &mut [u8]) -> io::Result<usize>
+    ensures { IfOk result (λ n. n ≤ length buffer.old) }
+{
+    let n = buffer.len();
+    let mut got: usize = 0;
+    while got < n {
+        let more = file.read(&mut buffer[got..])?;
+        if more == 0 {
+            return Ok(got);
+        }
+        got += more;
+    }
+    Ok(got)
+}
+
 // The length of the next record; 0 at the end of the file. One that is longer than the buffer is cut.
-fn next_length(fd: i32) -> usize
-    ensures { result ≤ 65536 }
+fn next_length(file: &mut File) -> io::Result<usize>
+    ensures { IfOk result (λ n. n ≤ 65536) }
 {
     let mut head = [0u8; 4];
-    let got = io::read_full(fd, &mut head);
+    let got = read_full(file, &mut head)?;
     let n = u32_at(&head, 0);
     if got < 4 {
-        return 0;
+        return Ok(0);
     }
-    if n < 65536 { n as usize } else { 65536 }
+    if n < 65536 { Ok(n as usize) } else { Ok(65536) }
 }
 
-fn read_record(fd: i32, buffer: &mut [u8], n: usize) -> usize
+fn read_record(file: &mut File, buffer: &mut [u8], n: usize) -> io::Result<usize>
     requires { n ≤ length buffer.old }
 {
-    io::read_full(fd, &mut buffer[..n])
+    read_full(file, &mut buffer[..n])
 }
 
-fn replay_next(fd: i32) -> Outcome {
-    let n = next_length(fd);
+fn replay_next(file: &mut File) -> io::Result<Outcome> {
+    let n = next_length(file)?;
     if n == 0 {
-        return Outcome::End;
+        return Ok(Outcome::End);
     }
     let mut buffer = [0u8; 65536];
-    if read_record(fd, &mut buffer, n) < n {
-        return Outcome::Differs;
+    let got = read_record(file, &mut buffer, n)?;
+    if got < n {
+        return Ok(Outcome::Differs);
     }
     if agrees(&buffer[..n]) {
-        Outcome::Same
+        Ok(Outcome::Same)
     } else {
-        Outcome::Differs
+        Ok(Outcome::Differs)
     }
 }
 
-#[derive(Drop)]
+#[derive(Clone, Copy)]
 struct Tally {
     records: u64,
     differ: u64,
@@ -710,41 +729,37 @@ fn is_end(outcome: Outcome) -> bool {
 }
 
 // A proved loop has to end, and nothing says that a file does: the loop counts its turns down.
-fn replay_file(fd: i32) -> Tally {
+fn replay_file(file: &mut File) -> io::Result<Tally> {
     let mut tally = Tally {
         records: 0,
         differ: 0,
     };
     let mut turns: u64 = 1000000;
     while turns > 0 {
-        let outcome = replay_next(fd);
+        let outcome = replay_next(file)?;
         if is_end(outcome) {
-            return tally;
+            return Ok(tally);
         }
         tally = with_outcome(tally, outcome);
         turns -= 1;
     }
-    tally
+    Ok(tally)
 }
 
-fn print_tally(name: &[u8], tally: Tally) {
-    io::write_all(STDOUT_FILENO, name);
-    io::write_all(STDOUT_FILENO, b": ");
-    io::print_decimal(STDOUT_FILENO, tally.records);
-    io::write_all(STDOUT_FILENO, b" records, ");
-    io::print_decimal(STDOUT_FILENO, tally.differ);
-    io::write_all(STDOUT_FILENO, b" differ\n");
+fn print_tally(rt: &impl Print, name: &str, tally: Tally) -> io::Result<()> {
+    let records = tally.records;
+    let differ = tally.differ;
+    println!(rt; "{name}: {records} records, {differ} differ")
 }
 
 // One line for a file.
-fn replay_part(name: &[u8], path: &[u8]) {
-    let fd = os::open_read(path);
-    let tally = replay_file(fd);
-    libc::close(fd);
-    print_tally(name, tally);
+fn replay_part(rt: &HostRuntime, name: &str, path: &str) -> io::Result<()> {
+    let mut file = File::open(rt, path)?;
+    let tally = replay_file(&mut file)?;
+    print_tally(rt, name, tally)
 }
 
-fn main() {
-    replay_part(b"numeric", b"numeric.bin");
-    replay_part(b"clahe", b"clahe.bin");
+fn main(rt: HostRuntime) -> io::Result<()> {
+    replay_part(&rt, "numeric", "numeric.bin")?;
+    replay_part(&rt, "clahe", "clahe.bin")
 }
