@@ -14,12 +14,12 @@ import unittest
 GATE = pathlib.Path(__file__).resolve().parent.parent / ".ci" / "run"
 TESTS = ["calls", "faults", "compare"]
 # The steps counted once each, with rt's ten and the edits' seven beside them.
-ONCE = ["packages", "lint", "archive", "crates", "host", *TESTS]
+ONCE = ["kept", "packages", "lint", "archive", "crates", "host", *TESTS]
 ALL = 10 + 7 + len(ONCE)
 SIGNALS = (signal.SIGTERM, signal.SIGINT, signal.SIGHUP)
 
 # A stand-in: its name and first word make the step; BAD names steps that fail, CRASH some that are cut off after their count, LIES some whose
-# count has no failure though they fail, SLOW one that hangs.
+# count has no failure though they fail, SLOW one that hangs. LOST is what rt says of edits that show nothing.
 STAND_IN = r"""#!/bin/bash
 name=$(basename "$0")
 case $name in
@@ -35,7 +35,7 @@ echo "$step" >>"$ORDER"
 [ "$step" != "$SLOW" ] || { echo "3 passed, 0 failed"; sleep 60; }
 case " $BAD " in *" $step "*) bad=1 ;; *) bad=0 ;; esac
 case $step in
-proofs) [ -n "$NOTHING" ] && echo "0 passed, 0 failed" || echo "$((10 - bad)) passed, $bad failed" ;;
+proofs) [ "$#" = 1 ] && [ "$1" = ci ] || exit 64; [ -z "$LOST" ] || echo "$LOST"; [ -n "$NOTHING" ] && echo "0 passed, 0 failed" || echo "$((10 - bad)) passed, $bad failed" ;;
 edits) echo "$((7 - bad)) passed, $bad failed" ;;
 *) echo "3 passed, 0 failed" ;;
 esac
@@ -65,7 +65,7 @@ class Gate(unittest.TestCase):
         shutil.copy(GATE, self.top / ".ci" / "run")
 
     def start(self, stdout=subprocess.PIPE, **words):
-        env = dict(os.environ, PATH=f"{self.top}/bin:/usr/bin:/bin", ORDER=str(self.top / "order"), GATE_SECONDS="70", BAD="", SLOW="", CRASH="", LIES="", NO_ORIGINALS="", NO_LIST="", NO_NEEDS="", NOTHING="")
+        env = dict(os.environ, PATH=f"{self.top}/bin:/usr/bin:/bin", ORDER=str(self.top / "order"), GATE_SECONDS="70", BAD="", SLOW="", CRASH="", LIES="", NO_ORIGINALS="", NO_LIST="", NO_NEEDS="", NOTHING="", LOST="")
         env.update(words)
         return subprocess.Popen([self.top / ".ci" / "run"], env=env, stdout=stdout, stderr=subprocess.STDOUT, text=True, preexec_fn=hear)
 
@@ -100,6 +100,16 @@ class Gate(unittest.TestCase):
     def test_a_count_without_failures_and_another_status(self):
         self.ends(self.start(LIES="proofs"), ALL, 1)
         self.ends(self.start(LIES="edits"), ALL, 1)
+
+    def test_an_edit_that_rt_calls_bad(self):
+        ok = "rt: ok; handles allowed: none; must-fail edits: 7 refused, {}; every proof and must-fail edit was done in this run"
+        self.ends(self.start(LOST=ok.format("1 bad")), ALL, 1)
+        self.ends(self.start(LOST=ok.format("2 of them only by a limit, 2 bad")), ALL, 2)
+        self.ends(self.start(LOST="rt: note: bad must-fail edits, as told above: 3. They fail nothing here\n" + ok.format("3 bad")), ALL, 3)
+        self.ends(self.start(LOST="rt: ok; handles allowed: none; must-fail edits: 7 refused; done in this run: 2 of the 9 proofs and 1 of the 7 must-fail edits"), ALL, 0)
+
+    def test_the_edits_are_given_what_rt_said(self):
+        self.assertIn("edits: tools/edits --rt ", self.ends(self.start(), ALL, 0))
 
     def test_no_rt(self):
         (self.top / "bin" / "rt").unlink()

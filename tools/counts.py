@@ -1,6 +1,6 @@
 #!/usr/bin/env python3
-"""counts.py [ROOT]: what a reader has to carry, counted over crates/: lines (without the tables of numbers), trivial answers, parameters, names,
-what is public. A report, but for two things that end it with 1: a function of more than eight parameters that is not the picture call or a run of it
+"""counts.py [ROOT]: what a reader has to carry, counted over crates/: lines (without the tables of numbers), answers to goals, parameters, names, what is
+public. A report, but for two things that end it with 1: a function of more than eight parameters that is not the picture call or a run of it
 in runs (one run holds its eight lists, two runs hold two scenes), and a `pub fn` that no other crate calls."""
 import glob
 import os
@@ -35,8 +35,21 @@ def functions(text):
             depth += {'(': 1, ')': -1}.get(text[i], 0)
             i += 1
         parameters = len([p for p in text[m.end():i - 1].split(',') if p.strip()])
-        clause = re.match(r'[^{]*(?:requires \{.*?⌝ \}\s*)*ensures(?: \w+)? \{(.*?)⌝\s*\}', text[i:], re.S)
-        yield m.group(2), (m.group(1) or '').startswith('pub '), parameters, clause.group(1) if clause else ''
+        yield m.group(2), (m.group(1) or '').startswith('pub '), parameters, promise(text, i)
+
+
+def promise(text, at):
+    """The text of the first `ensures` of a function whose parameters end there."""
+    while True:
+        clause = re.compile(r'\b(requires|ensures)\*?(?:\s+\w+)?\s*\{').search(text, at)
+        if not clause or text.find('{', at) < clause.start():
+            return ''
+        depth, at = 1, clause.end()
+        while depth:
+            depth += {'{': 1, '}': -1}.get(text[at], 0)
+            at += 1
+        if clause.group(1) == 'ensures':
+            return text[clause.end():at - 1]
 
 
 def plain(name):
@@ -51,20 +64,17 @@ def names_of(function):
 
 proofs = files('*/proofs/**/*.antt')
 sources = [path for path in files('*/src/**/*.rt') if not path.endswith('/numbers.rt')]
-answers = [f for f in proofs if f.endswith('Proof.antt')]
-named = sum(len(re.findall(r' : tie\.Need-', read(f))) for f in answers)
-trivial = sum(len(re.findall(r'^(\S+) : tie\.Need-\S+.*\n\1 c(?: κs)? = (?:search needs|omega arith)\n', read(f), re.M)) for f in answers)
-lists = [read(f).split('tie.spec', 1)[-1] for f in answers]
-lambdas = sum(len(re.findall(r'\(λ c(?: κs)?\.', text)) for text in lists)
-bare = sum(len(re.findall(r'\(λ c(?: κs)?\. (?:search needs|omega arith)\)', text)) for text in lists)
+answers = [read(f) for f in proofs if f.endswith('/Answers.antt')]
+given = [re.search(rf'^{re.escape(name)} [^\n]*=(.*?)(?=\n\n|\Z)', text, re.M | re.S) for text in answers for name in re.findall(r'^pub (\S+) : goal\.', text, re.M)]
+trivial = sum(bool(it) and re.fullmatch(r'\s*(?:search rules|omega arith)\s*', it.group(1)) is not None for it in given)
 print(f'lines: code {lines(sources)}, definitions and statements {lines(files("*/specs/**/*.antt"))}, proofs {lines(proofs)}')
-print(f'answers: {named + lambdas}, of them trivial {trivial + bare}, {trivial} of these with lines of their own')
+print(f'answers: {len(given)} in {len(answers)} files, of them trivial {trivial}; what has none, Rattle finds by itself')
 
 definitions = set()
 for path in files('*/specs/**/*.antt'):
-    definitions |= set(re.findall(r'^(?:unfoldable |abbrev )pub ([\w·]+) :', read(path), re.M))
+    definitions |= set(re.findall(r'^(?:unfoldable |abbrev )pub (\w+) :', read(path), re.M))
 # Definitions that a contract puts around another one: the name to compare is the next.
-wrappers = {'number', 'stretch', 'bytesOf', 'firstOf', 'pixels', 'lowest', 'highest', 'stored', 'places'}
+wrappers = {'number', 'stretch', 'bytes_of', 'first_of', 'pixels', 'lowest', 'highest', 'stored', 'places'}
 code = {}
 for path in sources:
     code.setdefault(path.split('/')[1], []).append((path, code_of(path)))
@@ -79,7 +89,7 @@ for crate, texts in code.items():
                 called = rf'\b{crate}::(?:\w+::)*{name}\b'
                 if not any(re.search(called, t) for other, rest in code.items() if other != crate for _, t in rest):
                     unused.append(f'{crate}::{name}')
-            head = re.search(r'≡ (?:number \()?\(*(?:[A-Z]\w*\.)?([\w·]+)', clause)
+            head = re.search(r'≡ (?:number \()?\(*(?:[A-Z]\w*\.)?(\w+)', clause)
             if head and head.group(1) in definitions - wrappers:
                 clauses += 1
                 if plain(head.group(1)) not in names_of(name):

@@ -18,7 +18,7 @@ def read(path):
 def body(text, at):
     """Where a function's body begins: the first brace that opens after its parameters and is no clause's."""
     while True:
-        clause = re.compile(r'\b(?:requires|ensures)(?:\s+\w+)?\s*\{').search(text, at)
+        clause = re.compile(r'\b(?:requires|ensures)\*?(?:\s+\w+)?\s*\{|\bghost\s+\w+\s*:\s*\{').search(text, at)
         brace = text.index('{', at)
         if not clause or brace < clause.start():
             return brace

@@ -1,24 +1,20 @@
 #!/usr/bin/env python3
-"""places.py CRATE FUNCTION: the places of a function's proof, each path from its end to its start, after `rt goals CRATE`. A step to the right
-is one `.before`; so `let at-window = c .before .before in` names the place that stands third."""
+"""places.py CRATE FUNCTION: the goals of a function's proof, each with its place in the source, in the form in which its files answer them: Invariants.antt
+and then Answers.antt. What may be named at a goal, `rt check --start FUNCTION --allow-holes` in the crate's folder says, where it has no file yet."""
 import glob
 import os
-import re
+import subprocess
 import sys
+import tempfile
 
 os.chdir(os.path.join(os.path.dirname(os.path.abspath(__file__)), '..'))
 crate, function = sys.argv[1:]
-found = False
-for path in glob.glob(f'target/goals/{crate}/*·proofs/proofs/**/{function}/Lts.antt', recursive=True):
-    with open(path, encoding='utf-8') as file:
-        before = dict(re.findall(r'pub record (\S+) : Type 0 where\n\s+pub before : (\S+)', file.read()))
-    for place in before:
-        if place in before.values():
-            continue
-        chain = [place]
-        while chain[-1] in before:
-            chain.append(before[chain[-1]])
-        print(' < '.join(chain))
-        found = True
+with tempfile.TemporaryDirectory() as room:
+    run = subprocess.run(['rt', 'check', '--start', function, '--generated', room], cwd=f'crates/{crate}', stdin=subprocess.DEVNULL,
+                         stdout=subprocess.PIPE, stderr=subprocess.STDOUT, text=True, errors='replace', check=False)
+    found = [path for name in ('InvariantsOffered', 'AnswersOffered') for path in sorted(glob.glob(f'{room}/Rattle-{crate}-proofs/**/{name}.antt', recursive=True))]
+    for path in found:
+        with open(path, encoding='utf-8') as file:
+            print(file.read())
 if not found:
-    sys.exit(f'no goals of {crate}::{function}: run `rt goals {crate}` first')
+    sys.exit(f'no goals of {crate}::{function}:\n{run.stdout}')

@@ -1,4 +1,4 @@
-// Links the proved archive. QUICKLOOK_ARCHIVE names its folder; by default it is where `rt staticlib quicklook` writes it.
+// Links the proved archive. QUICKLOOK_ARCHIVE names its folder; by default it is where `tools/build archive` puts it.
 use std::path::PathBuf;
 
 fn main() {

@@ -10,7 +10,7 @@ use ndarray::Array2;
 use random::Rng;
 use sarpro::core::processing::{autoscale, synthetic_rgb};
 use sarpro::types::BitDepth;
-use std::ffi::{c_char, c_int, c_void, CStr, CString};
+use std::ffi::{CStr, CString, c_char, c_int, c_void};
 use std::hint::black_box;
 use std::time::Instant;
 
@@ -152,8 +152,26 @@ struct Before {
 
 type GreyCall<T> = unsafe extern "C" fn(u8, usize, usize, *const f64, usize, *const u8, usize, *mut T, usize, *mut f64, usize) -> u8;
 type PictureCall = unsafe extern "C" fn(
-    u8, u8, usize, usize, *const f64, usize, *const u8, usize, *const f64, usize, *const u8, usize, *mut u8, usize, *mut u8, usize, *mut u8,
-    usize, *mut f64, usize,
+    u8,
+    u8,
+    usize,
+    usize,
+    *const f64,
+    usize,
+    *const u8,
+    usize,
+    *const f64,
+    usize,
+    *const u8,
+    usize,
+    *mut u8,
+    usize,
+    *mut u8,
+    usize,
+    *mut u8,
+    usize,
+    *mut f64,
+    usize,
 ) -> u8;
 
 impl Before {
@@ -255,11 +273,10 @@ fn bench_before(side: usize, old: &Before) {
             side,
             || drop(black_box(rust_picture(strategy, &rust))),
             || {
-                let (out1, out2, out, work) = (was1.as_mut_ptr(), was2.as_mut_ptr(), black_box(was_rgb.as_mut_ptr()), was_work.as_mut_ptr());
+                let (out1, out2, out, work) =
+                    (was1.as_mut_ptr(), was2.as_mut_ptr(), black_box(was_rgb.as_mut_ptr()), was_work.as_mut_ptr());
                 let reply = unsafe {
-                    (old.picture)(
-                        code, 0, side, side, db1, n, marks1, n, db2, n, marks2, n, out1, n, out2, n, out, 3 * n, work, 16_384,
-                    )
+                    (old.picture)(code, 0, side, side, db1, n, marks1, n, db2, n, marks2, n, out1, n, out2, n, out, 3 * n, work, 16_384)
                 };
                 assert_eq!(reply, 0);
             },
@@ -377,7 +394,9 @@ fn main() {
     if std::env::args().nth(1).is_some_and(|a| a == "before") {
         let old = Before::load(&std::env::args().nth(2).expect("bench before ARCHIVE.so [SIDE ..]"));
         let sides = if sides.is_empty() { vec![4_096] } else { sides };
-        println!("| call | side | Rust, ms | before, ms | after, ms | before / Rust | after / Rust | after / before |\n|---|---|---|---|---|---|---|---|");
+        println!(
+            "| call | side | Rust, ms | before, ms | after, ms | before / Rust | after / Rust | after / before |\n|---|---|---|---|---|---|---|---|"
+        );
         sides.into_iter().for_each(|side| bench_before(side, &old));
         return;
     }

@@ -16,36 +16,37 @@ const WORK: usize = oracle::table::CLAHE_WORK;
 
 /// Where the names in the declarations come from; a file imports those that it has.
 const NAMES: [(&str, &[&str]); 17] = [
-    ("mathlib.Core.List", &["[]", "_∷_", "map"]),
+    ("mathlib.Core.List", &["[]", "◌∷◌", "map"]),
     ("lib.Dec", &["T"]),
-    ("lib.Ieee", &["binary64", "toBits"]),
+    ("lib.Ieee", &["binary64", "to_bits"]),
     (
-        "Rattle·types.specs.declared.AutoscaleStrategy.the-variants",
+        "Rattle.types.specs.declared.AutoscaleStrategy.TheVariants",
         &["Standard", "Robust", "Adaptive", "Equalized", "Clahe", "Tamed", "Default"],
     ),
-    ("Rattle·types.specs.declared.SyntheticRgbMode.the-variants", &["Default as Plain", "RgbRatio", "SarUrban", "Enhanced"]),
-    ("Rattle·spec.specs.Pixels", &["pixels"]),
-    ("Rattle·spec.specs.Statistics", &["statisticsOf", "computeHistogramStats"]),
-    ("Rattle·spec.specs.Window", &["autoscaleWindow"]),
-    ("Rattle·spec.specs.Grey", &["autoscaleDbImageToU8", "autoscaleDbImageToU16"]),
-    ("Rattle·spec.specs.Stretch", &["scaleU16ToU8"]),
-    ("Rattle·spec.specs.Colour", &["createSyntheticRgbByModeAndStrategy"]),
-    ("Rattle·spec.specs.Clahe", &["tileSide", "clip", "sumAt", "tilePosition"]),
-    ("Rattle·spec.specs.RowResults", &["claheResults", "tileSums", "rowAt", "rowResults"]),
-    ("Rattle·spec.specs.Padding", &["addPaddingToSquare"]),
-    ("Rattle·spec.specs.Marks", &["processScalarDataMask"]),
-    ("Rattle·spec.specs.Ops", &["operateArrays", "sumOp", "differenceOp", "ratioOp", "logRatioOp", "normalizedDiffOp"]),
-    ("Rattle·spec.specs.Picture", &["syntheticRgbPicture"]),
+    ("Rattle.types.specs.declared.SyntheticRgbMode.TheVariants", &["Default as Plain", "RgbRatio", "SarUrban", "Enhanced"]),
+    ("Rattle.spec.specs.Pixels", &["pixels"]),
+    ("Rattle.spec.specs.Statistics", &["statistics_of", "compute_histogram_stats"]),
+    ("Rattle.spec.specs.Window", &["autoscale_window"]),
+    ("Rattle.spec.specs.Grey", &["autoscale_db_image_to_u8", "autoscale_db_image_to_u16"]),
+    ("Rattle.spec.specs.Stretch", &["scale_u16_to_u8"]),
+    ("Rattle.spec.specs.Colour", &["create_synthetic_rgb_by_mode_and_strategy"]),
+    ("Rattle.spec.specs.Clahe", &["tile_side", "clip", "sum_at", "tile_position"]),
+    ("Rattle.spec.specs.RowResults", &["clahe_results", "tile_sums", "row_at", "row_results"]),
+    ("Rattle.spec.specs.Padding", &["add_padding_to_square"]),
+    ("Rattle.spec.specs.Marks", &["process_scalar_data_mask"]),
+    ("Rattle.spec.specs.Ops", &["operate_arrays", "sum_op", "difference_op", "ratio_op", "log_ratio_op", "normalized_diff_op"]),
+    ("Rattle.spec.specs.Picture", &["synthetic_rgb_picture"]),
 ];
 
-const TESTS: &[&str] = &["same", "floats", "floats32", "statAnswer", "windowBits", "allWindows", "bytes", "words", "pictureBytes", "lent"];
+const TESTS: &[&str] =
+    &["same", "floats", "floats32", "stat_answer", "window_bits", "all_windows", "bytes", "words", "picture_bytes", "lent"];
 
 /// The `use` lines of a file with these declarations.
 fn imports(declarations: &str) -> String {
     let lines = declarations.lines().filter(|l| !l.starts_with("--"));
     let words: HashSet<&str> = lines.flat_map(|l| l.split([' ', '(', ')', '.'])).collect();
     let has = |name: &&&str| {
-        let word = name.rsplit(' ').next().unwrap().trim_matches('_');
+        let word = name.rsplit(' ').next().unwrap().trim_matches('◌');
         words.contains(word)
     };
     let line = |module: &str, names: &[&str]| {
@@ -53,8 +54,8 @@ fn imports(declarations: &str) -> String {
         if used.is_empty() { String::new() } else { format!("use {module}.{{{}}}\n", used.join(", ")) }
     };
     let mut text: String = NAMES.iter().map(|(module, names)| line(module, names)).collect();
-    text += "use Rattle·starred.specs.Computing.{computing}\n";
-    text + &line("Rattle·scenes·specs.specs.Tests", TESTS)
+    text += "use Rattle.starred.specs.Computing.{computing}\n";
+    text + &line("Rattle.scenes.specs.Tests", TESTS)
 }
 
 fn list<T: Display>(elements: impl IntoIterator<Item = T>) -> String {
@@ -104,7 +105,7 @@ impl File {
 
     fn check(&mut self, label: &str, got: String, expected: String) {
         self.count += 1;
-        let name = format!("{label}-{}", self.count);
+        let name = format!("{label}_{}", self.count);
         write!(self.text, "\npub {name} : T (same ({got}) {expected})\nunfolding computing\n{name} = tt\n").unwrap();
     }
 
@@ -123,13 +124,13 @@ impl File {
     fn statistics(&mut self, scene: &Scene) {
         let expected =
             answer(oracle::statistics(scene.sides, scene.band()), |s| [vec![s.valid_count.to_string()], bits(&s.floats)].concat());
-        self.check("statistics", format!("statAnswer (computeHistogramStats {})", Self::sided(scene)), expected);
+        self.check("statistics", format!("stat_answer (compute_histogram_stats {})", Self::sided(scene)), expected);
     }
 
     fn window(&mut self, strategy: AutoscaleStrategy, scene: &Scene) {
         let given = oracle::window(strategy, scene.sides, scene.band());
         let expected = answer(given, |w| w.map_or(Vec::new(), |w| bits(&[w.low, w.high, w.range, w.gamma])));
-        self.check("window", format!("windowBits (autoscaleWindow {strategy} {})", Self::sided(scene)), expected);
+        self.check("window", format!("window_bits (autoscale_window {strategy} {})", Self::sided(scene)), expected);
     }
 
     /// All seven from one record.
@@ -140,17 +141,17 @@ impl File {
             expected.push("0".to_string());
             expected.extend(w.map_or(Vec::new(), |w| bits(&[w.low, w.high, w.range, w.gamma])));
         }
-        self.check("windows", format!("allWindows (statisticsOf (pixels {}))", Self::band(scene)), list(expected));
+        self.check("windows", format!("all_windows (statistics_of (pixels {}))", Self::band(scene)), list(expected));
     }
 
     fn grey8(&mut self, strategy: AutoscaleStrategy, scene: &Scene, out: usize, work: usize) {
         let expected = answer(oracle::grey_u8(strategy, scene.sides, scene.band(), out, work), numbers);
-        self.check("grey8", format!("bytes (autoscaleDbImageToU8 {strategy} {} {out} {work})", Self::sided(scene)), expected);
+        self.check("grey8", format!("bytes (autoscale_db_image_to_u8 {strategy} {} {out} {work})", Self::sided(scene)), expected);
     }
 
     fn grey16(&mut self, strategy: AutoscaleStrategy, scene: &Scene, out: usize, work: usize) {
         let expected = answer(oracle::grey_u16(strategy, scene.sides, scene.band(), out, work), numbers);
-        self.check("grey16", format!("bytes (autoscaleDbImageToU16 {strategy} {} {out} {work})", Self::sided(scene)), expected);
+        self.check("grey16", format!("bytes (autoscale_db_image_to_u16 {strategy} {} {out} {work})", Self::sided(scene)), expected);
     }
 
     fn picture(&mut self, strategy: AutoscaleStrategy, mode: SyntheticRgbMode, band1: &Scene, band2: &Scene, lent: Lent) {
@@ -158,7 +159,7 @@ impl File {
         let expected = answer(given, |p| numbers([p.grey1, p.grey2, p.rgb].concat()));
         let Lent { grey1, grey2, rgb, work } = lent;
         let got = format!(
-            "pictureBytes (syntheticRgbPicture {strategy} {} {} {} (lent {grey1} {grey2} {rgb} {work}))",
+            "picture_bytes (synthetic_rgb_picture {strategy} {} {} {} (lent {grey1} {grey2} {rgb} {work}))",
             mode_name(mode),
             Self::sided(band1),
             Self::band(band2)
@@ -281,16 +282,16 @@ fn tiles_file() -> File {
     for (rows, cols, counts) in [(10, 16, half), (20, 50, round)] {
         let sums = tiles::sums_of_counts(Sides { rows, cols }, &counts);
         let places = [0usize, 3, 10, 99, 200, 255];
-        let got = format!("map (λ b. toBits binary64 (sumAt (clip {} {}) b)) {}", rows * cols, list(counts), list(places));
+        let got = format!("map (λ b. to_bits binary64 (sum_at (clip {} {}) b)) {}", rows * cols, list(counts), list(places));
         f.check("sums", got, list(bits(&places.map(|b| sums[b]))));
     }
     f.note("the results in 0..1 of the 7 by 7 band, and those of its rows 0 and 4 by what they follow from");
     let results = bits(&equalised.iter().map(|x| x.clamp(0.0, 1.0)).collect::<Vec<f64>>());
     let px = format!("(pixels {})", File::band(&normal));
-    f.check("results", format!("map (toBits binary64) (claheResults 7 7 {px})"), list(&results));
+    f.check("results", format!("map (to_bits binary64) (clahe_results 7 7 {px})"), list(&results));
     for r in [0usize, 4] {
-        let row = format!("rowResults (tilePosition (tileSide 7) {r}) (tileSums 7 7 {px}) (rowAt 7 {r} {px})");
-        f.check("row", format!("map (toBits binary64) ({row})"), list(&results[7 * r..7 * r + 7]));
+        let row = format!("row_results (tile_position (tile_side 7) {r}) (tile_sums 7 7 {px}) (row_at 7 {r} {px})");
+        f.check("row", format!("map (to_bits binary64) ({row})"), list(&results[7 * r..7 * r + 7]));
     }
     f
 }
@@ -300,14 +301,14 @@ fn beside() -> File {
     let mut f = File::new("Beside", "Stretch, colours, padding, arithmetic, marks.");
     for data in [&[0u16, 65535, 1, 257, 32768][..], &[3, 9, 5, 200, 77, 31], &[7, 7], &[]] {
         let expected = answer(oracle::stretch(data, data.len()), numbers);
-        f.check("stretch", format!("bytes (scaleU16ToU8 {} {})", list(data), data.len()), expected);
+        f.check("stretch", format!("bytes (scale_u16_to_u8 {} {})", list(data), data.len()), expected);
     }
     let (v1, v2) = ([0u8, 3, 4, 40, 41, 90, 200, 255], [255u8, 3, 9, 12, 0, 177, 41, 128]);
     for strategy in [Default, Clahe] {
         let expected = answer(oracle::composition(SyntheticRgbMode::Enhanced, strategy, &v1, &v2, 24), numbers);
         f.check(
             "composition",
-            format!("bytes (createSyntheticRgbByModeAndStrategy Enhanced {strategy} {} {} 24)", list(v1), list(v2)),
+            format!("bytes (create_synthetic_rgb_by_mode_and_strategy Enhanced {strategy} {} {} 24)", list(v1), list(v2)),
             expected,
         );
     }
@@ -315,24 +316,24 @@ fn beside() -> File {
         let data: Vec<u16> = (1..=rows * cols).map(|k| 1000 * k as u16).collect();
         let side = rows.max(cols);
         let expected = answer(oracle::padding_u16(Sides { rows, cols }, &data, side * side), numbers);
-        f.check("padding", format!("bytes (addPaddingToSquare {rows} {cols} {} {})", list(&data), side * side), expected);
+        f.check("padding", format!("bytes (add_padding_to_square {rows} {cols} {} {})", list(&data), side * side), expected);
     }
     let a = [0x3f800000u32, 0x40490fdb, 0x7f800000, 0x7fc00000, 1, 0x3dcccccd, 0xc2f6e979, 0x80000000].map(f32::from_bits);
     let b = [0x3eaaaaabu32, 0x2edbe6ff, 0x7f800000, 0x3f800000, 0x80000001, 0x2edbe700, 0x42f6e979, 0].map(f32::from_bits);
     for (operation, name) in [
-        (PolarizationOperation::Sum, "sumOp"),
-        (PolarizationOperation::Diff, "differenceOp"),
-        (PolarizationOperation::Ratio, "ratioOp"),
-        (PolarizationOperation::LogRatio, "logRatioOp"),
-        (PolarizationOperation::NDiff, "normalizedDiffOp"),
+        (PolarizationOperation::Sum, "sum_op"),
+        (PolarizationOperation::Diff, "difference_op"),
+        (PolarizationOperation::Ratio, "ratio_op"),
+        (PolarizationOperation::LogRatio, "log_ratio_op"),
+        (PolarizationOperation::NDiff, "normalized_diff_op"),
     ] {
         let expected = answer(oracle::arithmetic(operation, &a, &b, 8), |xs| bits32(&xs));
-        let got = format!("words (operateArrays {name} (floats32 {}) (floats32 {}) 8)", list(bits32(&a)), list(bits32(&b)));
+        let got = format!("words (operate_arrays {name} (floats32 {}) (floats32 {}) 8)", list(bits32(&a)), list(bits32(&b)));
         f.check("arithmetic", got, expected);
     }
     let x = [0x3727c5acu32, 0x3727c5ad, 0x7f800000, 0x7fc00000, 0xff800000, 0, 0xbf800000, 0x3f800000].map(f32::from_bits);
     let expected = answer(oracle::marks(&x, 8), numbers);
-    f.check("marks", format!("bytes (processScalarDataMask (floats32 {}) 8)", list(bits32(&x))), expected);
+    f.check("marks", format!("bytes (process_scalar_data_mask (floats32 {}) 8)", list(bits32(&x))), expected);
     f
 }
 
