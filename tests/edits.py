@@ -156,6 +156,13 @@ class Edits(Room):
         path.write_text(SOURCE.replace(SEVEN, "let n: u8 = 9;"))
         self.ends(GOOD, "edits: not proved as it stands", 0, 1)
 
+    def test_an_edit_that_stands_open(self):
+        path = self.top / "tools" / "edits-open"
+        path.parent.mkdir(exist_ok=True)
+        self.addCleanup(path.unlink)
+        path.write_text("# with its reason\nfirst/seven_nine: its control falls\n")
+        self.ends(GOOD, "edit first/seven_nine: OPEN, and not counted: its control falls", 6, 0)
+
     def test_no_such_edit(self):
         status, out = self.tries(GOOD, "first/none")
         self.assertNotEqual(status, 0)
