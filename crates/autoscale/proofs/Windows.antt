@@ -6,6 +6,7 @@ use Prim.Native.Nat.{ℕ, zero, suc}
 use native.Mathlib.Omega.{arith}
 use lib.ListN.{length}
 use lib.Ieee.{Float}
+use Rattle.std.specs.Prelude.{Option, Some, None}
 use Rattle.types.specs.declared.AutoscaleStrategy.{AutoscaleStrategy}
 use Rattle.types.specs.declared.HistogramStats.{HistogramStats}
 use Rattle.types.specs.declared.Moments.{Moments}
@@ -20,8 +21,6 @@ use Rattle.spec.specs.Strongest.{nowhere}
 use Rattle.spec.specs.Statistics.{summary, summary_of, statistics_of}
 use Rattle.spec.specs.Window.{window_of, picture_window, read_window, autoscale_window}
 use Rattle.raster.proofs.Bands.{first_stays, first_later, first-here, first_not_here, first-none}
-use Rattle.histogram.specs.declared.moments.FirstPass.{FirstPass}
-use Rattle.histogram.specs.declared.moments.FirstPass.TheVariants.{Passed, BadDecibel}
 use Rattle.histogram.specs.Extremes.{extremes_from}
 use Rattle.histogram.specs.Passes.{passed, first_pass, extremes}
 use Rattle.histogram.proofs.Counting.{none-count}
@@ -31,7 +30,7 @@ use Rattle.autoscale.specs.Bands.{reads_mean, stats_for, band_stats, band_window
 use Rattle.autoscale.proofs.Unread.{window_for, picture_for}
 
 -- ---- the statistics, by the pass
-abbrev pass_for : AutoscaleStrategy → List Pixel → FirstPass
+abbrev pass_for : AutoscaleStrategy → List Pixel → Option Moments
 pass_for strategy px = cond (reads_mean strategy) (first_pass px) (extremes px)
 
 -- the moments of that pass
@@ -56,7 +55,7 @@ stats_is strategy px = go (reads_mean strategy)
     go false = refl
 
 -- the count of that pass
-pub pass_count : (strategy : AutoscaleStrategy) (px : List Pixel) (m : Moments) → pass_for strategy px ≡ Passed m → m.count ≡ length (valid_of px)
+pub pass_count : (strategy : AutoscaleStrategy) (px : List Pixel) (m : Moments) → pass_for strategy px ≡ Some m → m.count ≡ length (valid_of px)
 pass_count strategy px m e =
     ap (λ (t : Moments). t.count) (sym (pass_good px (moments_for strategy px) m (sym (pass_is strategy px) ∙ e)).1) ∙ go (reads_mean strategy)
   where
@@ -64,11 +63,11 @@ pass_count strategy px m e =
     go true = none-count (valid_of px)
     go false = extremes-count (valid_of px)
 
-pub stats-refused : (strategy : AutoscaleStrategy) (px : List Pixel) → pass_for strategy px ≡ BadDecibel → StatisticsRefused 4 ≡ band_stats strategy px
+pub stats-refused : (strategy : AutoscaleStrategy) (px : List Pixel) → pass_for strategy px ≡ None → StatisticsRefused 4 ≡ band_stats strategy px
 unfolding band_stats
 stats-refused strategy px e = rw (pass_bad px (moments_for strategy px) (sym (pass_is strategy px) ∙ e))
 
-pub stats-passed : (strategy : AutoscaleStrategy) (px : List Pixel) (m : Moments) (r : HistogramStats) → pass_for strategy px ≡ Passed m → r ≡ summary m nowhere (valid_of px) →
+pub stats-passed : (strategy : AutoscaleStrategy) (px : List Pixel) (m : Moments) (r : HistogramStats) → pass_for strategy px ≡ Some m → r ≡ summary m nowhere (valid_of px) →
     Statistics r ≡ band_stats strategy px
 unfolding band_stats
 stats-passed strategy px m r e q =

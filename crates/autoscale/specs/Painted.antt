@@ -1,5 +1,5 @@
 -- The values of a band from its window outside Clahe, the windows that painting starts from, and what it knows of marks. Definitions only.
-use Rattle.std.specs.Prelude.{◌≡◌, Bool, true, false, List, map, ℕ, ◌≤◌, ◌<◌, Float, length, get_or}
+use Rattle.std.specs.Prelude.{◌≡◌, Bool, true, false, List, map, ℕ, ◌<◌, Float, length, get_or}
 use Rattle.std.specs.Float.Ieee.{eq}
 use Rattle.types.specs.declared.AutoscaleStrategy.TheVariants.{Default}
 use Rattle.types.specs.declared.WindowAnswer.{WindowAnswer}
@@ -7,15 +7,19 @@ use Rattle.types.specs.declared.WindowFloats.{WindowFloats}
 use Rattle.types.specs.declared.WindowAnswer.TheVariants.{Window, Blank, Refused}
 use Rattle.spec.specs.Floats.{one64}
 use Rattle.spec.specs.Pixels.{Pixel}
-use Rattle.spec.specs.Gamma.{BitDepth, U8, U16, gamma_value}
+use Rattle.spec.specs.Gamma.{BitDepth, U8, U16, full_of, gamma_value}
 use Rattle.spec.specs.Grey.{values}
-use Rattle.spec.specs.Value.{normalized, paint}
+use Rattle.spec.specs.Value.{normalized, value_of, paint}
 use Rattle.gamma.specs.Thresholds.{Row}
 use Rattle.gamma.specs.Gammas.{is_gamma}
 
 -- the values of a band outside Clahe, where neither the strategy nor the sides matter (`values_outside`)
 abbrev pub plain_values : BitDepth → List Pixel → WindowAnswer → List ℕ
 plain_values depth px w = values depth Default 0 0 px w
+
+-- the value of a pixel by the straight line, as an element of a picture of this depth
+abbrev pub straight : {D : Type 0} → (ℕ → D) → BitDepth → WindowFloats → Pixel → D
+straight of depth window = λ px. of (paint (value_of (full_of depth) window.low window.high window.range) px)
 
 -- out has the values of these normalised pixels under the gamma with these thresholds, whichever it is
 abbrev pub CurveValues : List Float → List Float → List ℕ → Type 0
@@ -36,9 +40,3 @@ opens depth (Refused k) = false
 -- every pixel is valid
 abbrev pub AllValid : List ℕ → Type 0
 AllValid marks = (k : ℕ) → k < length marks → 0 < get_or marks k 0
-
--- n is the place of the first valid pixel, or the length if there is none
-pub record FirstValid (marks : List ℕ) (n : ℕ) : Type 0 where
-  pub within : n ≤ length marks
-  pub before : (k : ℕ) → k < n → get_or marks k 0 ≡ 0
-  pub here : n < length marks → 0 < get_or marks n 0

@@ -4,28 +4,24 @@ ghost use Rattle.spec.specs.Pixels.{pixels};
 ghost use Rattle.histogram.specs.Passes.{first_pass, extremes};
 ghost use Rattle.autoscale.specs.Bands.{reads_mean, band_stats, band_window, band_picture_window};
 
-use histogram::moments::FirstPass;
-use types::{AutoscaleStrategy, Place, StatisticsAnswer, WindowAnswer};
+use types::{AutoscaleStrategy, Moments, Place, StatisticsAnswer, WindowAnswer};
 
 fn reads_mean(strategy: AutoscaleStrategy) -> bool
     ensures { result ≡ reads_mean strategy }
 {
-    if let AutoscaleStrategy::Adaptive = strategy {
-        true
-    } else {
-        false
-    }
+    matches!(strategy, AutoscaleStrategy::Adaptive)
 }
 
 // Pass one, as far as the strategy reads it.
-fn strategy_pass(strategy: AutoscaleStrategy, db: &[f64], valid_mask: &[u8]) -> FirstPass
+fn strategy_pass(strategy: AutoscaleStrategy, db: &[f64], valid_mask: &[u8]) -> Option<Moments>
     requires { (length valid_mask.now ≡ length db.now) × (length db.now < 2 ^ 32) }
     ensures { result ≡ cond (reads_mean strategy) (first_pass (pixels valid_mask.now db.now)) (extremes (pixels valid_mask.now db.now)) }
 {
     if reads_mean(strategy) {
-        return histogram::moments::first_pass(db, valid_mask);
+        histogram::moments::first_pass(db, valid_mask)
+    } else {
+        histogram::moments::extremes(db, valid_mask)
     }
-    histogram::moments::extremes(db, valid_mask)
 }
 
 // The statistics that the strategy reads, of a band whose sides, lengths and marks are accepted.
@@ -33,7 +29,7 @@ fn band_stats(strategy: AutoscaleStrategy, db: &[f64], valid_mask: &[u8]) -> Sta
     requires { (length valid_mask.now ≡ length db.now) × (length db.now < 2 ^ 32) }
     ensures { result ≡ band_stats strategy (pixels valid_mask.now db.now) }
 {
-    let FirstPass::Passed(m) = strategy_pass(strategy, db, valid_mask) else {
+    let Some(m) = strategy_pass(strategy, db, valid_mask) else {
         return StatisticsAnswer::Refused(4);
     };
     StatisticsAnswer::Statistics(histogram::summary(db, valid_mask, m, Place { row: 0, col: 0 }))

@@ -2,6 +2,7 @@
 ghost use Rattle.std.specs.Prelude.{◌≡◌};
 ghost use Rattle.spec.specs.Window as Window;
 
+use numeric::Binary;
 use types::{AutoscaleStrategy, Clip, HistogramStats};
 
 fn between(low: f64, high: f64, gamma: f64) -> Clip
@@ -11,6 +12,7 @@ fn between(low: f64, high: f64, gamma: f64) -> Clip
 }
 
 // Low at least the least value, high at most the greatest.
+#[tactic(auto, unfolding(spec::specs::Window::valid_range))]
 fn valid_range(stats: HistogramStats, low: f64, high: f64, gamma: f64) -> Clip
     ensures { result ≡ Window.valid_range stats low high gamma }
 {
@@ -22,6 +24,7 @@ fn valid_range(stats: HistogramStats, low: f64, high: f64, gamma: f64) -> Clip
 }
 
 // Standard, low contrast: around the median.
+#[tactic(auto, unfolding(spec::specs::Window::low_contrast_clip))]
 fn low_contrast_clip(stats: HistogramStats, dynamic_range: f64) -> Clip
     ensures { result ≡ Window.low_contrast_clip stats dynamic_range }
 {
@@ -35,6 +38,7 @@ fn low_contrast_clip(stats: HistogramStats, dynamic_range: f64) -> Clip
 }
 
 // Standard, heavy-tailed: by the interquartile range.
+#[tactic(auto, unfolding(spec::specs::Window::heavy_tailed_clip, spec::specs::Window::outlier))]
 fn heavy_tailed_clip(stats: HistogramStats, iqr: f64) -> Clip
     ensures { result ≡ Window.heavy_tailed_clip stats iqr }
 {
@@ -42,6 +46,7 @@ fn heavy_tailed_clip(stats: HistogramStats, iqr: f64) -> Clip
 }
 
 // Standard, high dynamic range: at least 0.02 of it within the ends.
+#[tactic(auto, unfolding(spec::specs::Window::high_range_clip))]
 fn high_range_clip(stats: HistogramStats, dynamic_range: f64) -> Clip
     ensures { result ≡ Window.high_range_clip stats dynamic_range }
 {
@@ -51,6 +56,7 @@ fn high_range_clip(stats: HistogramStats, dynamic_range: f64) -> Clip
 }
 
 // Standard, normal.
+#[tactic(auto, unfolding(spec::specs::Window::normal_clip))]
 fn normal_clip(stats: HistogramStats) -> Clip
     ensures { result ≡ Window.normal_clip stats }
 {
@@ -58,23 +64,24 @@ fn normal_clip(stats: HistogramStats) -> Clip
 }
 
 // Standard, as `autoscale_db_image` decides it.
+#[tactic(auto, unfolding(spec::specs::Window::standard_clip))]
 fn standard_clip(stats: HistogramStats) -> Clip
     ensures { result ≡ Window.standard_clip stats }
 {
     let dynamic_range = stats.max_db - stats.min_db;
     let iqr = stats.p75 - stats.p25;
     if dynamic_range < 15.0 {
-        return low_contrast_clip(stats, dynamic_range);
+        low_contrast_clip(stats, dynamic_range)
+    } else if iqr < 5.0 {
+        heavy_tailed_clip(stats, iqr)
+    } else if dynamic_range > 40.0 {
+        high_range_clip(stats, dynamic_range)
+    } else {
+        normal_clip(stats)
     }
-    if iqr < 5.0 {
-        return heavy_tailed_clip(stats, iqr);
-    }
-    if dynamic_range > 40.0 {
-        return high_range_clip(stats, dynamic_range);
-    }
-    normal_clip(stats)
 }
 
+#[tactic(auto, unfolding(spec::specs::Window::robust_clip, spec::specs::Window::outlier))]
 fn robust_clip(stats: HistogramStats) -> Clip
     ensures { result ≡ Window.robust_clip stats }
 {
@@ -89,12 +96,14 @@ fn robust_clip(stats: HistogramStats) -> Clip
     }
 }
 
+#[tactic(auto, unfolding(spec::specs::Window::skew_factor))]
 fn skew_factor(stats: HistogramStats) -> f64
     ensures { result ≡ Window.skew_factor stats }
 {
-    (stats.mean_db - stats.median_db) / numeric::max_f64(numeric::abs_f64(stats.std_db), 1.0)
+    (stats.mean_db - stats.median_db) / numeric::max_f64(Binary::abs(stats.std_db), 1.0)
 }
 
+#[tactic(auto, unfolding(spec::specs::Window::tail_heaviness))]
 fn tail_heaviness(stats: HistogramStats) -> f64
     ensures { result ≡ Window.tail_heaviness stats }
 {
@@ -102,23 +111,26 @@ fn tail_heaviness(stats: HistogramStats) -> f64
 }
 
 // By skew, then by tail.
+#[tactic(auto, unfolding(spec::specs::Window::adaptive_clip))]
 fn adaptive_clip(stats: HistogramStats) -> Clip
     ensures { result ≡ Window.adaptive_clip stats }
 {
     let skew = skew_factor(stats);
-    if numeric::abs_f64(skew) > 0.5 {
+    if Binary::abs(skew) > 0.5 {
         if skew > 0.0 {
-            return between(stats.p02, stats.p98, 0.9);
+            between(stats.p02, stats.p98, 0.9)
+        } else {
+            between(stats.p05, stats.p95, 1.1)
         }
-        return between(stats.p05, stats.p95, 1.1);
+    } else if tail_heaviness(stats) > 2.0 {
+        between(stats.p10, stats.p90, 0.8)
+    } else {
+        between(stats.p05, stats.p95, 1.0)
     }
-    if tail_heaviness(stats) > 2.0 {
-        return between(stats.p10, stats.p90, 0.8);
-    }
-    between(stats.p05, stats.p95, 1.0)
 }
 
 // What a strategy decides for the window and grey calls.
+#[tactic(auto, unfolding(spec::specs::Window::choose_clip))]
 pub(crate) fn choose_clip(strategy: AutoscaleStrategy, stats: HistogramStats) -> Clip
     ensures { result ≡ Window.choose_clip strategy stats }
 {
@@ -126,21 +138,24 @@ pub(crate) fn choose_clip(strategy: AutoscaleStrategy, stats: HistogramStats) ->
         AutoscaleStrategy::Standard => standard_clip(stats),
         AutoscaleStrategy::Robust => robust_clip(stats),
         AutoscaleStrategy::Adaptive => adaptive_clip(stats),
-        AutoscaleStrategy::Equalized => between(stats.p01, stats.p99, 1.0),
-        AutoscaleStrategy::Clahe => between(stats.p01, stats.p99, 1.0),
+        AutoscaleStrategy::Equalized | AutoscaleStrategy::Clahe => {
+            between(stats.p01, stats.p99, 1.0)
+        },
         AutoscaleStrategy::Tamed => between(stats.p25, stats.p99, 1.0),
         AutoscaleStrategy::Default => between(stats.p05, stats.p95, 1.0),
     }
 }
 
 // Tamed on the picture path, as `autoscale_db_image_tamed_synrgb_u8` decides it.
+#[tactic(auto, unfolding(spec::specs::Window::tamed_clip))]
 fn tamed_clip(is_copol: bool, stats: HistogramStats) -> Clip
     ensures { result ≡ Window.tamed_clip is_copol stats }
 {
     if is_copol {
-        return between(numeric::min_f64(stats.p02, stats.p05), stats.p99, 1.0);
+        between(numeric::min_f64(stats.p02, stats.p05), stats.p99, 1.0)
+    } else {
+        between(stats.p05, stats.p99, 1.0)
     }
-    between(stats.p05, stats.p99, 1.0)
 }
 
 // What a strategy decides for a picture.
@@ -151,8 +166,8 @@ pub(crate) fn picture_clip(
 ) -> Clip
     ensures { result ≡ Window.picture_clip strategy is_copol stats }
 {
-    if let AutoscaleStrategy::Tamed = strategy {
-        return tamed_clip(is_copol, stats);
+    match strategy {
+        AutoscaleStrategy::Tamed => tamed_clip(is_copol, stats),
+        _ => choose_clip(strategy, stats),
     }
-    choose_clip(strategy, stats)
 }

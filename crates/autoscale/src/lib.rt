@@ -15,6 +15,7 @@ ghost use Rattle.autoscale.specs.Painted.{plain_values, opens};
 use types::{AutoscaleStrategy, Clip, HistogramStats, WindowAnswer, WindowFloats};
 
 // A clip with its range as an answer, blank without a valid pixel.
+#[tactic(auto, unfolding(spec::specs::Window::opened))]
 fn open_window(valid_count: usize, clip: Clip) -> WindowAnswer
     ensures { result ≡ Window.open_window valid_count clip }
 {
@@ -32,6 +33,7 @@ fn open_window(valid_count: usize, clip: Clip) -> WindowAnswer
 }
 
 // The window of a band with these statistics.
+#[tactic(auto, unfolding(spec::specs::Window::window_of))]
 pub(crate) fn window_of(strategy: AutoscaleStrategy, stats: HistogramStats) -> WindowAnswer
     ensures { result ≡ Window.window_of strategy stats }
 {
@@ -39,6 +41,7 @@ pub(crate) fn window_of(strategy: AutoscaleStrategy, stats: HistogramStats) -> W
 }
 
 // The window that a picture paints such a band with.
+#[tactic(auto, unfolding(spec::specs::Window::picture_window))]
 pub(crate) fn picture_window(
     strategy: AutoscaleStrategy,
     is_copol: bool,
@@ -99,7 +102,7 @@ pub fn plain_greys_u8(db: &[f64], valid_mask: &[u8], window: WindowAnswer, out: 
         gamma,
     } = window
     else {
-        lists::clear_u8(out);
+        out.fill(0);
         return;
     };
     let ends = paint::paint_u8(
@@ -137,7 +140,7 @@ pub fn autoscale_db_image_tamed_synrgb_u8(
         gamma,
     } = window
     else {
-        lists::clear_u8(out);
+        out.fill(0);
         return;
     };
     paint::paint_u8(
@@ -167,10 +170,10 @@ pub fn plain_values_u16(db: &[f64], valid_mask: &[u8], window: WindowAnswer, out
         gamma,
     } = window
     else {
-        lists::clear_u16(out);
+        out.fill(0);
         return;
     };
-    paint::paint_u16(
+    paint::paint_blocks(
         db,
         valid_mask,
         WindowFloats {

@@ -1,45 +1,34 @@
 // The painting of valid pixels between the ends of a window, outside Clahe, each float step in the source's order; other gammas: curve.rt. A dB is
 // read where its mark is not 0 and nowhere else (`valid_db`): blocks whose pixels are all valid go without a test, and in the others an invalid pixel
 // works on a valid one's dB.
-ghost use Rattle.std.specs.Prelude.{◌≡◌, cond, map, ◌+◌, ◌<◌, min, eqb, length, get_or};
+ghost use Rattle.std.specs.Prelude.{◌≡◌, ◌==◌, not, cond, map, position, replicate, ◌+◌, ◌<◌, min, eqb, length, get_or};
 ghost use Rattle.std.specs.Float.{nan};
 ghost use Rattle.spec.specs.Lists.{lowest, highest};
 ghost use Rattle.spec.specs.Pixels.{pixels};
-ghost use Rattle.spec.specs.Gamma.{U8, grey_value};
-ghost use Rattle.spec.specs.Value.{full8, full16, value_of, paint};
-ghost use Rattle.autoscale.specs.Painted.{AllValid, FirstValid};
+ghost use Rattle.spec.specs.Gamma.{U8, full_of, grey_value};
+ghost use Rattle.spec.specs.Value.{value_of, paint};
+ghost use Rattle.autoscale.specs.Painted.{AllValid, straight};
 
 use crate::curve;
+use gamma::CurvedGamma;
+use numeric::depth::Depth;
 use stretch::Ends;
 use types::WindowFloats;
 
-// Times 255, held to 0..255, truncated.
-fn value_of_u8(v: f64, window: WindowFloats) -> u8
-    ensures { result ≡ value_of full8 window.low window.high window.range v }
+// Times the full value, held to 0..that, truncated.
+#[tactic(auto, unfolding(spec::specs::Value::value_of))]
+fn value_of<D: Depth>(v: f64, window: WindowFloats) -> D
+    ensures { result ≡ D.of (value_of (full_of D.depth) window.low window.high window.range v) }
 {
-    let x = numeric::normalized(v, window.low, window.high, window.range) * 255.0;
-    numeric::trunc_small(numeric::clamp_f64(x, 0.0, 255.0)) as u8
-}
-
-// Times 65535, held to 0..65535, truncated.
-fn value_of_u16(v: f64, window: WindowFloats) -> u16
-    ensures { result ≡ value_of full16 window.low window.high window.range v }
-{
-    let x = numeric::normalized(v, window.low, window.high, window.range) * 65535.0;
-    numeric::trunc_small(numeric::clamp_f64(x, 0.0, 65535.0)) as u16
+    let x = numeric::normalized(v, window.low, window.high, window.range) * D::full();
+    numeric::depth::held(x)
 }
 
 // A value, or 0 where the pixel is invalid.
-pub(crate) fn masked_u8(mark: u8, byte: u8) -> u8
-    ensures { result ≡ cond (eqb mark 0) 0 byte }
+pub(crate) fn masked<D: Depth>(mark: u8, value: D) -> D
+    ensures { result ≡ cond (eqb mark 0) (D.of 0) value }
 {
-    if mark == 0 { 0 } else { byte }
-}
-
-fn masked_u16(mark: u8, value: u16) -> u16
-    ensures { result ≡ cond (eqb mark 0) 0 value }
-{
-    if mark == 0 { 0 } else { value }
+    if mark == 0 { D::black() } else { value }
 }
 
 // The dB of a valid pixel: the one place where painting reads one.
@@ -55,29 +44,17 @@ pub(crate) fn least_mark(valid_mask: &[u8]) -> u8
     ensures { result ≡ lowest 255 valid_mask.now }
 {
     let mut least: u8 = 255;
-    let mut i: usize = 0;
-    while i < valid_mask.len() {
-        let mark = valid_mask[i];
-        if mark < least {
-            least = mark;
-        }
-        i += 1;
+    for mark in valid_mask {
+        least = least.min(*mark);
     }
     least
 }
 
-// The place of the first valid pixel, the length if there is none.
-pub(crate) fn first_valid(valid_mask: &[u8]) -> usize
-    ensures { FirstValid valid_mask.now result }
+// The place of the first valid pixel.
+pub(crate) fn first_valid(valid_mask: &[u8]) -> Option<usize>
+    ensures { result ≡ position (λ mark. not (mark == 0)) valid_mask.now }
 {
-    let mut i: usize = 0;
-    while i < valid_mask.len() {
-        if valid_mask[i] != 0 {
-            return i;
-        }
-        i += 1;
-    }
-    i
+    valid_mask.iter().position(|mark| *mark != 0)
 }
 
 // The place to read at i: i itself, or the last valid place so far where the pixel is invalid.
@@ -92,75 +69,85 @@ pub(crate) fn block_end(at: usize, n: usize) -> usize
     requires { at < n }
     ensures { result ≡ min (at + 128) n }
 {
-    if n - at < 128 { n } else { at + 128 }
+    at + (n - at).min(128)
 }
 
-// Pixels that are all valid, at 8 bits.
-fn paint_valid_u8(db: &[f64], valid_mask: &[u8], window: WindowFloats, out: &mut [u8])
+// Pixels that are all valid.
+fn paint_valid<D: Depth>(db: &[f64], valid_mask: &[u8], window: WindowFloats, out: &mut [D])
     requires fact_1 { length db.now ≡ length out.old }
     requires fact_2 { length valid_mask.now ≡ length out.old }
     requires fact_3 { AllValid valid_mask.now }
-    ensures { out.new ≡ map (paint (value_of full8 window.low window.high window.range)) (pixels valid_mask.now db.now) }
+    ensures { out.new ≡ map (straight D.of D.depth window) (pixels valid_mask.now db.now) }
 {
-    let mut i = 0;
-    while i < out.len() {
-        out[i] = value_of_u8(valid_db(db, valid_mask, i), window);
-        i += 1;
+    for (i, value) in out.iter_mut().enumerate() {
+        *value = value_of(valid_db(db, valid_mask, i), window);
     }
 }
 
-// Pixels of which `first` is valid, at 8 bits, without a branch.
-fn paint_some_u8(db: &[f64], valid_mask: &[u8], first: usize, window: WindowFloats, out: &mut [u8])
+// Pixels of which `first` is valid, without a branch.
+fn paint_some<D: Depth>(
+    db: &[f64],
+    valid_mask: &[u8],
+    first: usize,
+    window: WindowFloats,
+    out: &mut [D],
+)
     requires fact_1 { length db.now ≡ length out.old }
     requires fact_2 { length valid_mask.now ≡ length out.old }
     requires fact_3 { (first < length out.old) × (0 < get_or valid_mask.now first 0) }
-    ensures { out.new ≡ map (paint (value_of full8 window.low window.high window.range)) (pixels valid_mask.now db.now) }
+    ensures { out.new ≡ map (straight D.of D.depth window) (pixels valid_mask.now db.now) }
 {
     let mut place = first;
-    let mut i = 0;
-    while i < out.len() {
-        let mark = valid_mask[i];
-        place = read_place(mark, i, place);
-        let value = value_of_u8(valid_db(db, valid_mask, place), window);
-        out[i] = masked_u8(mark, value);
-        i += 1;
+    for (i, mark) in valid_mask.iter().enumerate() {
+        place = read_place(*mark, i, place);
+        let value = value_of(valid_db(db, valid_mask, place), window);
+        out[i] = masked(*mark, value);
     }
 }
 
-// A block at 8 bits.
-fn paint_block_u8(db: &[f64], valid_mask: &[u8], window: WindowFloats, out: &mut [u8])
+// Pixels of which none is valid.
+fn blacken<D: Depth>(out: &mut [D])
+    ensures { out.new ≡ replicate (length out.old) (D.of 0) }
+{
+    for value in out.iter_mut() {
+        *value = D::black();
+    }
+}
+
+// A block.
+fn paint_block<D: Depth>(db: &[f64], valid_mask: &[u8], window: WindowFloats, out: &mut [D])
     requires fact_1 { length db.now ≡ length out.old }
     requires fact_2 { length valid_mask.now ≡ length out.old }
-    ensures { out.new ≡ map (paint (value_of full8 window.low window.high window.range)) (pixels valid_mask.now db.now) }
+    ensures { out.new ≡ map (straight D.of D.depth window) (pixels valid_mask.now db.now) }
 {
     if least_mark(valid_mask) != 0 {
-        paint_valid_u8(db, valid_mask, window, out);
-        return;
+        paint_valid(db, valid_mask, window, out);
+    } else if let Some(first) = first_valid(valid_mask) {
+        paint_some(db, valid_mask, first, window, out);
+    } else {
+        blacken(out);
     }
-    let first = first_valid(valid_mask);
-    if first == valid_mask.len() {
-        lists::clear_u8(out);
-        return;
-    }
-    paint_some_u8(db, valid_mask, first, window, out);
 }
 
-// A band at 8 bits, block by block.
-fn paint_blocks_u8(db: &[f64], valid_mask: &[u8], window: WindowFloats, out: &mut [u8])
+// A band by the straight line, block by block.
+pub(crate) fn paint_blocks<D: Depth>(
+    db: &[f64],
+    valid_mask: &[u8],
+    window: WindowFloats,
+    out: &mut [D],
+)
     requires fact_1 { length db.now ≡ length out.old }
     requires fact_2 { length valid_mask.now ≡ length out.old }
-    ensures { out.new ≡ map (paint (value_of full8 window.low window.high window.range)) (pixels valid_mask.now db.now) }
+    ensures { out.new ≡ map (straight D.of D.depth window) (pixels valid_mask.now db.now) }
 {
-    let mut at = 0;
-    while at < out.len() {
+    for at in (0..out.len()).step_by(128) {
         let end = block_end(at, out.len());
-        paint_block_u8(
+        paint_block(
             &db[at..end],
             &valid_mask[at..end],
             window,
             &mut out[at..end],
         );
-        at = end;
     }
 }
 
@@ -170,12 +157,10 @@ fn paint_window_u8(db: &[f64], valid_mask: &[u8], window: WindowFloats, out: &mu
     requires fact_2 { length valid_mask.now ≡ length out.old }
     ensures { out.new ≡ map (paint (grey_value U8 window.gamma window.low window.high window.range)) (pixels valid_mask.now db.now) }
 {
-    let number = gamma::curve_of(window.gamma);
-    if number < 3 {
-        curve::paint_curve_u8(db, valid_mask, window, number, out);
-        return;
+    match CurvedGamma::of(window.gamma) {
+        Some(gamma) => curve::paint_curve_u8(db, valid_mask, window, gamma, out),
+        None => paint_blocks(db, valid_mask, window, out),
     }
-    paint_blocks_u8(db, valid_mask, window, out);
 }
 
 // A band at 8 bits, with the least and the greatest of the bytes.
@@ -186,79 +171,4 @@ pub(crate) fn paint_u8(db: &[f64], valid_mask: &[u8], window: WindowFloats, out:
 {
     paint_window_u8(db, valid_mask, window, out);
     stretch::ends_of_bytes(out)
-}
-
-// Pixels that are all valid, at 16 bits.
-fn paint_valid_u16(db: &[f64], valid_mask: &[u8], window: WindowFloats, out: &mut [u16])
-    requires fact_1 { length db.now ≡ length out.old }
-    requires fact_2 { length valid_mask.now ≡ length out.old }
-    requires fact_3 { AllValid valid_mask.now }
-    ensures { out.new ≡ map (paint (value_of full16 window.low window.high window.range)) (pixels valid_mask.now db.now) }
-{
-    let mut i = 0;
-    while i < out.len() {
-        out[i] = value_of_u16(valid_db(db, valid_mask, i), window);
-        i += 1;
-    }
-}
-
-// Pixels of which `first` is valid, at 16 bits, without a branch.
-fn paint_some_u16(
-    db: &[f64],
-    valid_mask: &[u8],
-    first: usize,
-    window: WindowFloats,
-    out: &mut [u16],
-)
-    requires fact_1 { length db.now ≡ length out.old }
-    requires fact_2 { length valid_mask.now ≡ length out.old }
-    requires fact_3 { (first < length out.old) × (0 < get_or valid_mask.now first 0) }
-    ensures { out.new ≡ map (paint (value_of full16 window.low window.high window.range)) (pixels valid_mask.now db.now) }
-{
-    let mut place = first;
-    let mut i = 0;
-    while i < out.len() {
-        let mark = valid_mask[i];
-        place = read_place(mark, i, place);
-        let value = value_of_u16(valid_db(db, valid_mask, place), window);
-        out[i] = masked_u16(mark, value);
-        i += 1;
-    }
-}
-
-// A block at 16 bits.
-fn paint_block_u16(db: &[f64], valid_mask: &[u8], window: WindowFloats, out: &mut [u16])
-    requires fact_1 { length db.now ≡ length out.old }
-    requires fact_2 { length valid_mask.now ≡ length out.old }
-    ensures { out.new ≡ map (paint (value_of full16 window.low window.high window.range)) (pixels valid_mask.now db.now) }
-{
-    if least_mark(valid_mask) != 0 {
-        paint_valid_u16(db, valid_mask, window, out);
-        return;
-    }
-    let first = first_valid(valid_mask);
-    if first == valid_mask.len() {
-        lists::clear_u16(out);
-        return;
-    }
-    paint_some_u16(db, valid_mask, first, window, out);
-}
-
-// A band at 16 bits, block by block.
-pub(crate) fn paint_u16(db: &[f64], valid_mask: &[u8], window: WindowFloats, out: &mut [u16])
-    requires fact_1 { length db.now ≡ length out.old }
-    requires fact_2 { length valid_mask.now ≡ length out.old }
-    ensures { out.new ≡ map (paint (value_of full16 window.low window.high window.range)) (pixels valid_mask.now db.now) }
-{
-    let mut at = 0;
-    while at < out.len() {
-        let end = block_end(at, out.len());
-        paint_block_u16(
-            &db[at..end],
-            &valid_mask[at..end],
-            window,
-            &mut out[at..end],
-        );
-        at = end;
-    }
 }

@@ -1,5 +1,5 @@
 -- A picture row by row, and that its values from the work list are those of the tables. Assumes nothing.
-use Rattle.std.proofs.Common.{◌≡◌, ℕ, ◌+◌, ◌-◌, ◌*◌, ◌/◌, ◌%◌, ◌<◌, ◌≤◌, List, [], ◌∷◌, ◌++◌, length, get_or, take, sym, refl, ap, ◌∙◌, subst, add-zero, mul-le-mul_right, mod-eq_of_lt, arith, ext_get_or}
+use Rattle.std.proofs.Common.{◌≡◌, ℕ, ◌+◌, ◌-◌, ◌*◌, ◌/◌, ◌%◌, ◌<◌, ◌≤◌, List, [], ◌∷◌, ◌++◌, map, length, get_or, take, sym, refl, ap, ◌∙◌, subst, add-zero, mul-le-mul_right, mod-eq_of_lt, arith, ext_get_or}
 use mathlib.Core.List.{zip_with}
 use native.Mathlib.Decide.{dec_lt}
 use native.Mathlib.Nat.{mul-add-div_right, mul-add-mod_self_right, div-eq_of_lt}
@@ -14,11 +14,11 @@ use Rattle.spec.specs.Clahe.{tile_side, tile_position, level_of, sum_at, sample,
 use Rattle.clahe.specs.declared.columns.Column.{Column}
 use Rattle.clahe.specs.Work.{Holds, Among, sum_in, next_tile, sampled}
 use Rattle.clahe.specs.Band.{normal_in, band, Raster}
-use Rattle.clahe.specs.Paint.{shade, column_at, column_of, Columns, shade_at, row_shades, place_shade, shades}
+use Rattle.clahe.specs.Paint.{shade, column_of, columns_of, shade_at, row_shades, place_shade, shades}
 use Rattle.clahe.proofs.Whole.{times_most, next_times}
 use Rattle.clahe.proofs.Cells.{places-length, places-at, map_at}
 use Rattle.clahe.proofs.Parts.{part, part_length, part_at, zip-at, zip_length, put-before, put-inside}
-use Rattle.clahe.proofs.Positions.{among, among_of, second_next, column_among}
+use Rattle.clahe.proofs.Positions.{among, among_of, second_next}
 
 -- ---- the row and the column of a place
 
@@ -63,39 +63,45 @@ module _ {rows cols : ℕ} {marks : List ℕ} {db : List Float} (s : Raster rows
   row_length xs e = part_length (r * cols) cols xs (omega (arith, row_fits))
 
   -- what the function of a row asks
-  pub row_ready : (side : ℕ) (y : TilePosition) (fs : List ℕ) (ws work : List Float) (out : List ℕ) → length out ≡ rows * cols → length work ≡ 16384 → y ≡ tile_position side r → Columns cols fs ws
+  pub row_ready : {A : Type 0} (side : ℕ) (y : TilePosition) (xs : List Column) (work : List Float) (out : List A) → length out ≡ rows * cols → length work ≡ 16384 → y ≡ tile_position side r
+      → xs ≡ columns_of cols
       → ((length (part (r * cols) cols db) ≤ 4096) × (length (part (r * cols) cols marks) ≡ length (part (r * cols) cols db)) × (length (part (r * cols) cols out) ≡ length (part (r * cols) cols db)))
-      × (((length work ≡ 16384) × Among y) × ((length fs ≡ 4096) × (length ws ≡ 4096) × ((c : ℕ) → c < length (part (r * cols) cols db) → get_or fs c 0 < 8)))
-  row_ready side y fs ws work out e l p k =
+      × (((length work ≡ 16384) × Among y) × (xs ≡ columns_of (length (part (r * cols) cols db))))
+  row_ready side y xs work out e l p k =
       let d = row_length db s.db_length in (
         (omega (arith, d, s.wide), row_length marks s.marks-length ∙ sym d, row_length out e ∙ sym d),
-        ((l, among_of side r y p), (k.sized.0, k.sized.1, λ c g. column_among cols c fs ws (k.at c (omega (arith, d, g))))),
+        ((l, among_of side r y p), k ∙ ap columns_of (sym d)),
       )
 
-module _ (full : Float) (work : List Float) (rows cols : ℕ) (w : WindowFloats) (marks : List ℕ) (db : List Float) where
+module _ {A : Type 0} (of : ℕ → A) (full : Float) (work : List Float) (rows cols : ℕ) (w : WindowFloats) (marks : List ℕ) (db : List Float) where
   abbrev Px : List Pixel
   Px = band w marks db
 
+  -- the value of the pixel at a place
+  abbrev Value : ℕ → A
+  Value i = of (place_shade full work rows cols i (get_or Px i off))
+
   -- the rows before r have their values
-  abbrev pub Above : ℕ → List ℕ → Type 0
-  Above r out = (i : ℕ) → i < r * cols → get_or out i 0 ≡ place_shade full work rows cols i (get_or Px i off)
+  abbrev pub Above : ℕ → List A → Type 0
+  Above r out = (i : ℕ) → i < r * cols → get_or out i (of 0) ≡ Value i
 
   module _ (s : Raster rows cols marks db) where
-    module _ (r : ℕ) (h : r < rows) (y : TilePosition) (x : ℕ → Column) (e : y ≡ tile_position (tile_side rows) r) (f : (c : ℕ) → c < cols → x c ≡ column_of cols c) where
+    module _ (r : ℕ) (h : r < rows) (y : TilePosition) (e : y ≡ tile_position (tile_side rows) r) where
       abbrev value : ℕ → ℕ
-      value = shade_at full work y x w (part (r * cols) cols marks) (part (r * cols) cols db)
+      value = shade_at full work y w (part (r * cols) cols marks) (part (r * cols) cols db)
 
       row_value : (c : ℕ) → c < cols → value c ≡ place_shade full work rows cols (r * cols + c) (get_or Px (r * cols + c) off)
       row_value c g =
           cc (
             e ∙ ap (tile_position (tile_side rows)) (sym (row_of r c cols g)),
-            f c g ∙ ap (column_of cols) (sym (column_of_lem r c cols g)),
+            row_length s r h db s.db_length,
+            column_of_lem r c cols g,
             part_at (r * cols) cols 0 marks c g,
             part_at (r * cols) cols nan db c g,
             band-at w marks db (r * cols + c) (s.marks-length ∙ sym s.db_length) (omega (arith, row_fits s r h)),
           )
 
-      put : (out ys zs : List ℕ) → length out ≡ rows * cols → ys ≡ row_shades full work y x w (part (r * cols) cols marks) (part (r * cols) cols db)
+      put : (out ys zs : List A) → length out ≡ rows * cols → ys ≡ map of (row_shades full work y w (part (r * cols) cols marks) (part (r * cols) cols db))
           → Above r out → Above (r + 1) (take (r * cols) out ++ (ys ++ zs))
       unfolding row_shades
       put out ys zs n q all i l = go (dec_lt i (r * cols))
@@ -109,37 +115,46 @@ module _ (full : Float) (work : List Float) (rows cols : ℕ) (w : WindowFloats)
           row_size : length (part (r * cols) cols db) ≡ cols
           row_size = row_length s r h db s.db_length
 
+          row : List ℕ
+          row = map value (places (length (part (r * cols) cols db)))
+
+          count : length row ≡ cols
+          count = length-map (places (length (part (r * cols) cols db))) value ∙ places-length 0 (length (part (r * cols) cols db)) ∙ row_size
+
           size : length ys ≡ cols
-          size = ap length q ∙ length-map (places (length (part (r * cols) cols db))) value ∙ places-length 0 (length (part (r * cols) cols db)) ∙ row_size
+          size = ap length q ∙ length-map row of ∙ count
 
-          at : (c : ℕ) → c < cols → get_or (take a out ++ (ys ++ zs)) (a + c) 0 ≡ place_shade full work rows cols (a + c) (get_or Px (a + c) off)
+          at : (c : ℕ) → c < cols → get_or (take a out ++ (ys ++ zs)) (a + c) (of 0) ≡ Value (a + c)
           at c g =
-              put-inside 0 a out ys zs fits c (omega (arith, size)) ∙ ap (λ (t : List ℕ). get_or t c 0) q
-              ∙ places-at value 0 (length (part (r * cols) cols db)) c (omega (arith, row_size)) ∙ row_value c g
+              put-inside (of 0) a out ys zs fits c (omega (arith, size)) ∙ ap (λ (t : List A). get_or t c (of 0)) q ∙ map_at of 0 (of 0) row c (omega (arith, count))
+              ∙ ap of (places-at value 0 (length (part (r * cols) cols db)) c (omega (arith, row_size)) ∙ row_value c g)
 
-          go : Dec (i < a) → get_or (take a out ++ (ys ++ zs)) i 0 ≡ place_shade full work rows cols i (get_or Px i off)
-          go (yes b) = put-before 0 a out ys zs fits i b ∙ all i b
+          go : Dec (i < a) → get_or (take a out ++ (ys ++ zs)) i (of 0) ≡ Value i
+          go (yes b) = put-before (of 0) a out ys zs fits i b ∙ all i b
           go (no b) =
               let c = i - a in
               let t : a + c ≡ i = omega (arith, b) in
-              subst (λ (j : ℕ). get_or (take a out ++ (ys ++ zs)) j 0 ≡ place_shade full work rows cols j (get_or Px j off)) t (at c (omega (arith, b, next_times r cols)))
+              subst (λ (j : ℕ). get_or (take a out ++ (ys ++ zs)) j (of 0) ≡ Value j) t (at c (omega (arith, b, next_times r cols)))
 
     -- the rows before r and row r
-    pub row_put : (r side : ℕ) (y : TilePosition) (fs : List ℕ) (ws : List Float) (out ys zs : List ℕ) → r < rows → side ≡ tile_side rows → y ≡ tile_position side r
-        → Columns cols fs ws → length out ≡ rows * cols → ys ≡ row_shades full work y (column_at fs ws) w (part (r * cols) cols marks) (part (r * cols) cols db)
+    pub row_put : (r side : ℕ) (y : TilePosition) (out ys zs : List A) → r < rows → side ≡ tile_side rows → y ≡ tile_position side r
+        → length out ≡ rows * cols → ys ≡ map of (row_shades full work y w (part (r * cols) cols marks) (part (r * cols) cols db))
         → Above r out → Above (r + 1) (take (r * cols) out ++ (ys ++ zs))
-    row_put r side y fs ws out ys zs h d e k = put r h y (column_at fs ws) (e ∙ ap (λ (m : ℕ). tile_position m r) d) k.at out ys zs
+    row_put r side y out ys zs h d e = put r h y (e ∙ ap (λ (m : ℕ). tile_position m r) d) out ys zs
 
-    pub all_rows : (r : ℕ) (out : List ℕ) → length out ≡ rows * cols → r ≡ rows → Above r out → out ≡ shades full work rows cols Px
+    pub all_rows : (r : ℕ) (out : List A) → length out ≡ rows * cols → r ≡ rows → Above r out → out ≡ map of (shades full work rows cols Px)
     unfolding shades
     all_rows r out n e above =
         let size = band-length w marks db (s.marks-length ∙ sym s.db_length) ∙ s.db_length in
         let F = place_shade full work rows cols in
+        let zs = zip_with F (places (length Px)) Px in
         let m = places-length 0 (length Px) in
+        let count = zip_length F (places (length Px)) Px m in
         let all = subst (λ (k : ℕ). Above k out) e above in
-        ext_get_or 0 out (zip_with F (places (length Px)) Px) (n ∙ sym size ∙ sym (zip_length F (places (length Px)) Px m))
+        ext_get_or (of 0) out (map of zs) (n ∙ sym size ∙ sym count ∙ sym (length-map zs of))
         (λ i h. all i (omega arith)
-        ∙ sym (zip-at F 0 off 0 (places (length Px)) Px i (omega (arith, size, m)) (omega (arith, size)) ∙ ap (λ (k : ℕ). F k (get_or Px i off)) (nth (length Px) i (omega (arith, size)))))
+        ∙ sym (map_at of 0 (of 0) zs i (omega (arith, size, count))
+        ∙ ap of (zip-at F 0 off 0 (places (length Px)) Px i (omega (arith, size, m)) (omega (arith, size)) ∙ ap (λ (k : ℕ). F k (get_or Px i off)) (nth (length Px) i (omega (arith, size))))))
 
 -- ---- the work list for the tables
 

@@ -1,12 +1,15 @@
--- A position from its parts, the positions of columns in two lists, and a sample from a row's position and a column's. Assumes nothing.
-use Rattle.std.proofs.Common.{◌≡◌, ℕ, ◌+◌, ◌<◌, min, List, length, get_or, set, sym, ap, ◌∙◌, subst, arith, get_or-set_other, get_or-set_same, below_more}
+-- A position from its parts, the positions of all columns, and a sample from a row's position and a column's. Assumes nothing.
+use Rattle.std.proofs.Common.{◌≡◌, ℕ, ◌+◌, ◌<◌, min, List, length, get_or, sym, ap, ◌∙◌, subst, arith}
+use lib.ListN.{length-map}
 use lib.Ieee.{Float, nan, binary64, sub, div, to_unsigned}
 use Rattle.types.specs.declared.TilePosition.{TilePosition}
 use Rattle.spec.specs.Floats.{half64, of_count}
+use Rattle.spec.specs.Lists.{places}
 use Rattle.spec.specs.Clahe.{tile_side, tile_position, blend}
 use Rattle.clahe.specs.declared.columns.Column.{Column}
 use Rattle.clahe.specs.Work.{Among, sum_in, next_tile, sampled}
-use Rattle.clahe.specs.Paint.{column_at, column_of}
+use Rattle.clahe.specs.Paint.{column_of, columns_of}
+use Rattle.clahe.proofs.Cells.{places-length, places-at, from_places}
 
 module _ (side i : ℕ) where
   abbrev pub place : Float
@@ -31,21 +34,31 @@ module _ (side i : ℕ) where
 
 -- ---- columns
 
--- a column by its parts
-made : {m m' : ℕ} {w w' : Float} → m ≡ m' → w ≡ w' → ◌≡◌ {A = Column} (record { first = m; weight = w }) (record { first = m'; weight = w' })
-made a b = cc
+pub columns-length : (cols : ℕ) → length (columns_of cols) ≡ cols
+unfolding columns_of
+columns-length cols = length-map (places cols) (column_of cols) ∙ places-length 0 cols
 
-pub column_next : (cols : ℕ) (fs : List ℕ) (ws : List Float) (c side : ℕ) (p : TilePosition) → side ≡ tile_side cols → p ≡ tile_position side c → c < length fs → c < length ws
-    → ((j : ℕ) → j < c → column_at fs ws j ≡ column_of cols j) → (j : ℕ) → j < c + 1 → column_at (set fs c p.first) (set ws c p.weight) j ≡ column_of cols j
-column_next cols fs ws c side p d e a b all =
-    let q = e ∙ ap (λ (n : ℕ). tile_position n c) d in
-    below_more (λ (j : ℕ). column_at (set fs c p.first) (set ws c p.weight) j ≡ column_of cols j) c
-    (λ j l. made (get_or-set_other fs c j p.first 0 (λ e. omega arith)) (get_or-set_other ws c j p.weight nan (λ e. omega arith)) ∙ all j l)
-    (made (get_or-set_same fs c p.first 0 a ∙ ap (λ (t : TilePosition). t.first) q) (get_or-set_same ws c p.weight nan b ∙ ap (λ (t : TilePosition). t.weight) q))
+pub column_at : (cols c : ℕ) (d : Column) → c < cols → get_or (columns_of cols) c d ≡ column_of cols c
+unfolding columns_of
+column_at cols c d h = places-at (column_of cols) d cols c h
 
--- a column of the lists has its first tile among the eight
-pub column_among : (cols c : ℕ) (fs : List ℕ) (ws : List Float) → column_at fs ws c ≡ column_of cols c → get_or fs c 0 < 8
-column_among cols c fs ws e = subst (λ (x : Column). x.first < 8) (sym e) (among (tile_side cols) c).0
+-- a column of the list has its first tile among the eight
+pub column_among : (cols c : ℕ) (d : Column) (xs : List Column) → xs ≡ columns_of cols → c < cols → (get_or xs c d ≡ column_of cols c) × ((get_or xs c d).first < 8)
+column_among cols c d xs e h =
+    let q = ap (λ (l : List Column). get_or l c d) e ∙ column_at cols c d h in (q, subst (λ (x : Column). x.first < 8) (sym q) (among (tile_side cols) c).0)
+
+-- what stands where there is no column
+abbrev pub none : Column
+none = record { first = 0; weight = nan }
+
+-- all columns, each known
+pub all_columns : (cols : ℕ) (xs : List Column) → length xs ≡ cols → ((c : ℕ) → c < cols → get_or xs c none ≡ column_of cols c) → xs ≡ columns_of cols
+unfolding columns_of
+all_columns cols xs e all = from_places (column_of cols) none cols xs e all
+
+-- the next column, from its position
+pub column_made : (cols c side : ℕ) (p : TilePosition) (x : Column) → side ≡ tile_side cols → p ≡ tile_position side c → x ≡ (record { first = p.first; weight = p.weight }) → x ≡ column_of cols c
+column_made cols c side p x d e f = cc (f, e, d)
 
 -- ---- a sample
 

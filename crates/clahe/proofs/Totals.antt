@@ -1,19 +1,20 @@
 -- Running sums of a list, one element after another. Assumes nothing.
-use Rattle.std.proofs.Common.{◌≡◌, ℕ, zero, suc, ◌+◌, ◌<◌, List, [], ◌∷◌, length, get_or, take, drop, ap, ◌∙◌, le_of_suc-le-suc, not-suc-le-zero, add-one, arith, drop-cons}
-use lib.Seq.{drop-length}
+use Rattle.std.proofs.Common.{◌≡◌, ℕ, zero, suc, ◌+◌, ◌*◌, ◌^◌, ◌<◌, ◌≤◌, List, [], ◌∷◌, length, get_or, take, sum, refl, ap, ◌∙◌, le_of_suc-le-suc, not-suc-le-zero, arith, Fits, w32}
+use Rattle.std.proofs.lemmas.List.Elements.{All-from_get_or}
+use Rattle.std.proofs.lemmas.List.Sums.{sum_by-cons, sum_by-le}
 use lib.Ieee.{Float, binary64, div}
 use Rattle.spec.specs.Floats.{zero64, one64, of_count, max_float, clamp_float}
 use Rattle.spec.specs.Lists.{sum_of}
 use Rattle.spec.specs.Clahe.{sum_at}
 
-module _ (hs : List ℕ) where
-  pub sum_next : (i : ℕ) → i < length hs → sum_of (drop i hs) ≡ get_or hs i 0 + sum_of (drop (i + 1) hs)
-  unfolding sum_of
-  sum_next i h = rw (add-one i, drop-cons hs i 0)
+-- the library's sum, and a bound on it
+pub sum_is : (hs : List ℕ) → sum hs ≡ sum_of hs
+unfolding sum_of
+sum_is [] = refl
+sum_is (h ∷ hs) = sum_by-cons (λ x. x) h hs ∙ ap (λ (n : ℕ). h + n) (sum_is hs)
 
-  pub sum_end : (i : ℕ) → i ≡ length hs → sum_of (drop i hs) ≡ 0
-  unfolding sum_of
-  sum_end i e = rw (e, drop-length)
+pub sum_most : (hs : List ℕ) → ((i : ℕ) → Fits w32 (get_or hs i 0)) → sum hs ≤ length hs * 2 ^ 32
+sum_most hs fits = sum_by-le (λ x. x) (2 ^ 32) hs (All-from_get_or (λ x. x ≤ 2 ^ 32) hs 0 (λ i h. omega (arith, fits i)))
 
 pub sum-take : (hs : List ℕ) (i : ℕ) → i < length hs → sum_of (take (suc i) hs) ≡ sum_of (take i hs) + get_or hs i 0
 unfolding sum_of

@@ -1,5 +1,5 @@
--- Values from the work list, and the positions of all columns in two lists. Definitions only.
-use Rattle.std.specs.Prelude.{◌≡◌, ℕ, ◌/◌, ◌%◌, ◌<◌, List, map, length, slice_index, slice_index_or, Float}
+-- Values from the work list, and the positions of all columns. Definitions only.
+use Rattle.std.specs.Prelude.{ℕ, ◌/◌, ◌%◌, List, map, length, slice_index, slice_index_or, Float}
 use mathlib.Core.List.{zip_with}
 use Rattle.std.specs.Float.{nan, binary64}
 use Rattle.std.specs.Float.Ieee.{mul, to_unsigned}
@@ -18,25 +18,21 @@ unfoldable pub shade : Float → List Float → TilePosition → Column → Pixe
 shade full work y x off = 0
 shade full work y x (on u) = to_unsigned 64 (mul binary64 (clamp_float zero64 one64 (sampled work y x (level_of u))) full)
 
--- the position of column c, from the lists and by its definition
-abbrev pub column_at : List ℕ → List Float → ℕ → Column
-column_at firsts weights c = record { first = slice_index firsts c; weight = slice_index_or weights c nan }
-
+-- the position of column c of so many
 abbrev pub column_of : ℕ → ℕ → Column
 column_of cols c = record { first = (tile_position (tile_side cols) c).first; weight = (tile_position (tile_side cols) c).weight }
 
--- the two lists hold the positions of all columns
-pub record Columns (cols : ℕ) (firsts : List ℕ) (weights : List Float) : Type 0 where
-  pub sized : (length firsts ≡ 4096) × (length weights ≡ 4096)
-  pub at : (c : ℕ) → c < cols → column_at firsts weights c ≡ column_of cols c
+-- the positions of all columns
+unfoldable pub columns_of : ℕ → List Column
+columns_of cols = map (column_of cols) (places cols)
 
--- the value of column c of a row at y, its columns at x
-abbrev pub shade_at : Float → List Float → TilePosition → (ℕ → Column) → WindowFloats → List ℕ → List Float → ℕ → ℕ
-shade_at full work y x w marks db c = shade full work y (x c) (normal_in w (pixel (slice_index marks c) (slice_index_or db c nan)))
+-- the value of column c of a row at y
+abbrev pub shade_at : Float → List Float → TilePosition → WindowFloats → List ℕ → List Float → ℕ → ℕ
+shade_at full work y w marks db c = shade full work y (column_of (length db) c) (normal_in w (pixel (slice_index marks c) (slice_index_or db c nan)))
 
 -- the values of such a row
-unfoldable pub row_shades : Float → List Float → TilePosition → (ℕ → Column) → WindowFloats → List ℕ → List Float → List ℕ
-row_shades full work y x w marks db = map (shade_at full work y x w marks db) (places (length db))
+unfoldable pub row_shades : Float → List Float → TilePosition → WindowFloats → List ℕ → List Float → List ℕ
+row_shades full work y w marks db = map (shade_at full work y w marks db) (places (length db))
 
 -- the value of a pixel at place i of a picture
 abbrev pub place_shade : Float → List Float → ℕ → ℕ → ℕ → Pixel → ℕ

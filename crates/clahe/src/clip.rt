@@ -6,12 +6,13 @@ ghost use Rattle.spec.specs.Floats.{zero64, of_count, round_as_u64};
 ghost use Rattle.spec.specs.Lists.{sum_of};
 ghost use Rattle.spec.specs.Clahe as Clahe;
 
+use numeric::Binary;
+
 // `f64 as u32`: the fraction dropped, held to the range, 0 for a NaN.
 fn f64_as_u32(x: f64) -> u32
     ensures { result ≡ to_unsigned 32 x }
 {
-    let n = numeric::f64_as_u64(x);
-    if n < 4294967296 { n as u32 } else { 4294967295 }
+    u32::try_from(x.as_u64()).unwrap_or(u32::MAX)
 }
 
 // How many a bin of a tile of that many pixels may hold.
@@ -46,13 +47,7 @@ fn excess(hist: &[u32], limit: f64) -> f64
     requires { length hist.now ≡ 256 }
     ensures { result ≡ Clahe.excess limit zero64 hist.now }
 {
-    let mut sum = 0.0;
-    let mut b: usize = 0;
-    while b < 256 {
-        sum = with_excess(sum, hist[b], limit);
-        b += 1;
-    }
-    sum
+    hist.iter().fold(0.0, |sum, h| with_excess(sum, *h, limit))
 }
 
 // A bin that holds more than the limit becomes the limit, without its fraction.
@@ -71,11 +66,8 @@ fn clip_bins(hist: &mut [u32], limit: f64)
     requires { length hist.old ≡ 256 }
     ensures { hist.new ≡ map (Clahe.clipped limit) hist.old }
 {
-    let mut b: usize = 0;
-    while b < 256 {
-        let h = hist[b];
-        hist[b] = clipped(h, limit);
-        b += 1;
+    for h in hist.iter_mut() {
+        *h = clipped(*h, limit);
     }
 }
 
@@ -83,14 +75,14 @@ fn clip_bins(hist: &mut [u32], limit: f64)
 fn each_of(over: f64) -> u64
     ensures { result ≡ to_unsigned 64 (div binary64 over Clahe.levels64) }
 {
-    numeric::f64_as_u64(over / 256.0)
+    (over / 256.0).as_u64()
 }
 
 // What is left of it, rounded.
 fn rest_of(over: f64, given: f64) -> u64
     ensures { result ≡ round_as_u64 (sub binary64 over given) }
 {
-    numeric::round_f64_as_u64(over - given)
+    (over - given).round_as_u64()
 }
 
 // A bin's share: `each`, and one more where the bin is among the first `rest`.
@@ -106,11 +98,8 @@ fn share(hist: &mut [u32], each: u32, rest: u64)
     requires { (length hist.old ≡ 256) × ((k : ℕ) → slice_index hist.old k + each + 1 < 2 ^ 32) }
     ensures { hist.new ≡ Clahe.one_by_one rest (map (λ h. h + each) hist.old) }
 {
-    let mut b: usize = 0;
-    while b < 256 {
-        let h = hist[b];
-        hist[b] = with_share(h, b as u64, each, rest);
-        b += 1;
+    for (b, h) in hist.iter_mut().enumerate() {
+        *h = with_share(*h, b as u64, each, rest);
     }
 }
 

@@ -1,7 +1,7 @@
 // The positions of all columns, worked out once a picture.
 ghost use Rattle.std.specs.Prelude.{◌≡◌, ◌<◌, ◌≤◌, length};
 ghost use Rattle.clahe.specs.Work.{next_tile};
-ghost use Rattle.clahe.specs.Paint.{Columns, column_at};
+ghost use Rattle.clahe.specs.Paint.{columns_of};
 
 use super::sampling::tile_position;
 use super::tiles::tile_side;
@@ -18,31 +18,20 @@ pub(crate) fn next_tile(first: usize) -> usize
     requires { first < 8 }
     ensures { result ≡ next_tile first }
 {
-    if first < 7 { first + 1 } else { 7 }
+    (first + 1).min(7)
 }
 
-// Writes the positions of cols columns.
-pub(crate) fn column_positions(cols: usize, firsts: &mut [u16], weights: &mut [f64])
-    requires { (cols ≤ 4096) × (length firsts.old ≡ 4096) × (length weights.old ≡ 4096) }
-    ensures { Columns cols firsts.new weights.new }
+// Writes the position of each column.
+pub(crate) fn column_positions(columns: &mut [Column])
+    requires { length columns.old ≤ 4096 }
+    ensures { columns.new ≡ columns_of (length columns.old) }
 {
-    let side = tile_side(cols);
-    let mut c: usize = 0;
-    while c < cols {
+    let side = tile_side(columns.len());
+    for (c, column) in columns.iter_mut().enumerate() {
         let p = tile_position(side, c);
-        firsts[c] = p.first as u16;
-        weights[c] = p.weight;
-        c += 1;
-    }
-}
-
-// The position of column c.
-pub(crate) fn column_at(firsts: &[u16], weights: &[f64], c: usize) -> Column
-    requires { (length firsts.now ≡ 4096) × (length weights.now ≡ 4096) × (c < 4096) }
-    ensures { result ≡ column_at firsts.now weights.now c }
-{
-    Column {
-        first: firsts[c] as usize,
-        weight: weights[c],
+        *column = Column {
+            first: p.first,
+            weight: p.weight,
+        };
     }
 }

@@ -20,14 +20,11 @@ fn count_row(db: &[f64], valid_mask: &[u8], window: WindowFloats, hist: &mut [u3
     requires hist_len { (length hist.old ≡ 256) × ((k : ℕ) → slice_index hist.old k ≤ 16777216) }
     ensures { hist.new ≡ stored hist.old (levels (band window valid_mask.now db.now)) }
 {
-    let mut i: usize = 0;
-    while i < db.len() {
+    for (i, v) in db.iter().enumerate() {
         if valid_mask[i] != 0 {
-            let b = level_of(numeric::normalized(db[i], window.low, window.high, window.range));
-            let n = hist[b];
-            hist[b] = n + 1;
+            let b = level_of(numeric::normalized(*v, window.low, window.high, window.range));
+            hist[b] += 1;
         }
-        i += 1;
     }
 }
 
@@ -52,11 +49,9 @@ pub(crate) fn count_tile(
     if width == 0 {
         return;
     }
-    let mut r: usize = 0;
-    while r < height {
+    for r in 0..height {
         let at = (top + r) * sides.cols + left;
         let end = at + width;
         count_row(&db[at..end], &valid_mask[at..end], window, hist);
-        r += 1;
     }
 }

@@ -11,49 +11,35 @@ mod paint; // paint.rt: the values of pixels from the tiles' sums, row by row
 ghost use Rattle.std.specs.Prelude.{◌≡◌, ◌*◌, map, length};
 ghost use Rattle.spec.specs.Pixels.{pixels};
 ghost use Rattle.spec.specs.Grey.{normal_pixel};
-ghost use Rattle.spec.specs.Value.{full8, full16};
+ghost use Rattle.spec.specs.Gamma.{full_of};
 ghost use Rattle.spec.specs.Clahe.{clahe_values};
 ghost use Rattle.clahe.specs.Band.{Raster};
 
-use columns::column_positions;
-use paint::{shades_u8, shades_u16};
+use columns::{Column, column_positions};
+use numeric::depth::Depth;
+use paint::shades;
 use sums::write_tables;
 use types::{Sides, WindowFloats};
 
-// The values of a band from its window, at 8 bits, before any stretch. The work list is left with the tiles' sums.
-pub fn clahe_values_u8(
+// The values of a band from its window, before any stretch. The work list is left with the tiles' sums.
+pub fn clahe_values<D: Depth>(
     db: &[f64],
     valid_mask: &[u8],
     sides: Sides,
     window: WindowFloats,
     work: &mut [f64],
-    out: &mut [u8],
+    out: &mut [D],
 )
     requires { Raster sides.rows sides.cols valid_mask.now db.now × (length work.old ≡ 16384) × (length out.old ≡ sides.rows * sides.cols) }
-    ensures { out.new ≡ clahe_values full8 sides.rows sides.cols (map (normal_pixel window.low window.high window.range) (pixels valid_mask.now db.now)) }
+    ensures { out.new ≡ map D.of (clahe_values (full_of D.depth) sides.rows sides.cols (map (normal_pixel window.low window.high window.range) (pixels valid_mask.now db.now))) }
 {
     write_tables(db, valid_mask, sides, window, work);
-    let mut firsts = [0u16; 4096];
-    let mut weights = [0.0f64; 4096];
-    column_positions(sides.cols, &mut firsts, &mut weights);
-    shades_u8(db, valid_mask, sides, window, work, &firsts, &weights, out);
-}
-
-// The values of a band from its window, at 16 bits, before any stretch. The work list is left with the tiles' sums.
-pub fn clahe_values_u16(
-    db: &[f64],
-    valid_mask: &[u8],
-    sides: Sides,
-    window: WindowFloats,
-    work: &mut [f64],
-    out: &mut [u16],
-)
-    requires { Raster sides.rows sides.cols valid_mask.now db.now × (length work.old ≡ 16384) × (length out.old ≡ sides.rows * sides.cols) }
-    ensures { out.new ≡ clahe_values full16 sides.rows sides.cols (map (normal_pixel window.low window.high window.range) (pixels valid_mask.now db.now)) }
-{
-    write_tables(db, valid_mask, sides, window, work);
-    let mut firsts = [0u16; 4096];
-    let mut weights = [0.0f64; 4096];
-    column_positions(sides.cols, &mut firsts, &mut weights);
-    shades_u16(db, valid_mask, sides, window, work, &firsts, &weights, out);
+    // Kept: a list of the greatest length, since there is no heap.
+    let mut room = [Column {
+        first: 0,
+        weight: 0.0,
+    }; 4096];
+    let columns = &mut room[..sides.cols];
+    column_positions(columns);
+    shades(db, valid_mask, sides, window, work, columns, out);
 }

@@ -6,6 +6,7 @@ ghost use Rattle.clahe.specs.Work.{Among, sum_in, sampled};
 ghost use Rattle.spec.specs.Clahe as Clahe;
 
 use super::columns::{Column, next_tile};
+use numeric::Binary;
 use types::TilePosition;
 
 // How far a position lies past the middle of its first tile: below 0 at the top and left edges.
@@ -21,9 +22,9 @@ pub fn tile_position(side: usize, i: usize) -> TilePosition
     ensures { result ≡ Clahe.tile_position side i }
 {
     let position = i as f64 / side as f64 - 0.5;
-    let k = numeric::f64_as_u64(position);
-    let first = if k < 7 { k as usize } else { 7 };
-    let second = if k < 6 { k as usize + 1 } else { 7 };
+    let k = position.as_u64();
+    let first = k.min(7) as usize;
+    let second = k.min(6) as usize + 1;
     TilePosition {
         position,
         first,
@@ -40,6 +41,7 @@ fn blend(weight: f64, a: f64, b: f64) -> f64
 }
 
 // The sum at bin b of the tile in row ty and column tx of tiles.
+// Kept: the caller of the archive lends the work as one list, so the place is counted here; public functions take that list too, and say its length.
 fn sum_in(work: &[f64], ty: usize, tx: usize, b: usize) -> f64
     requires { (length work.now ≡ 16384) × (ty < 8) × (tx < 8) × (b < 256) }
     ensures { result ≡ sum_in work.now ty tx b }

@@ -18,13 +18,7 @@ pub fn sum_of(hist: &[u32]) -> u64
     requires { length hist.now ≡ 256 }
     ensures { (result ≡ sum_of hist.now) × (result ≤ 2 ^ 40) }
 {
-    let mut sum: u64 = 0;
-    let mut b: usize = 0;
-    while b < 256 {
-        sum += hist[b] as u64;
-        b += 1;
-    }
-    sum
+    hist.iter().map(|n| u64::from(*n)).sum()
 }
 
 // A running sum over the whole, held to 0..1.
@@ -41,12 +35,10 @@ pub fn write_sums(hist: &[u32], sums: &mut [f64])
     ensures { sums.new ≡ map (Clahe.sum_at hist.now) (places 256) }
 {
     let whole = numeric::max_f64(sum_of(hist) as f64, 1.0);
-    let mut so_far: u64 = 0;
-    let mut b: usize = 0;
-    while b < 256 {
-        so_far += hist[b] as u64;
+    let mut so_far = 0;
+    for (b, n) in hist.iter().enumerate() {
+        so_far += u64::from(*n);
         sums[b] = part(so_far, whole);
-        b += 1;
     }
 }
 
@@ -82,11 +74,9 @@ pub fn write_tables(
     requires { Raster sides.rows sides.cols valid_mask.now db.now × (length work.old ≡ 16384) }
     ensures { Holds (Clahe.tile_tables sides.rows sides.cols (band window valid_mask.now db.now)) work.new }
 {
-    let mut k: usize = 0;
-    while k < 64 {
+    for k in 0..64 {
         let at = k * 256;
         let end = at + 256;
         tile_sums(db, valid_mask, sides, window, k, &mut work[at..end]);
-        k += 1;
     }
 }

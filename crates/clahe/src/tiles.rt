@@ -24,15 +24,7 @@ pub(crate) fn tile_size(s: usize, k: usize) -> usize
     requires { (s ≤ 4096) × (k < 8) }
     ensures { result ≡ tile_size s k }
 {
-    let start = tile_start(s, k);
-    let side = tile_side(s);
-    if start + side <= s {
-        return side;
-    }
-    if start < s {
-        return s - start;
-    }
-    0
+    tile_side(s).min(s.saturating_sub(tile_start(s, k)))
 }
 
 fn side_refused(s: usize) -> bool
@@ -47,8 +39,5 @@ pub fn either_side_refused(rows: usize, cols: usize) -> bool
     requires { (rows ≤ 4096) × (cols ≤ 4096) }
     ensures { result ≡ (side_refused rows || side_refused cols) }
 {
-    if side_refused(rows) {
-        return true;
-    }
-    side_refused(cols)
+    side_refused(rows) || side_refused(cols)
 }

@@ -6,62 +6,67 @@ ghost use Rattle.colour_tables.specs.Tables.{Table, Tables, Thresholds};
 
 mod numbers;
 
-// The default red of each byte.
-pub fn red_table() -> [u8; 256]
-    ensures { Table red result }
-{
-    numbers::RED
+// The tables of one rule: red and green of each byte, and the ratios at which blue rises.
+#[derive(Clone, Copy)]
+pub struct ColourTables {
+    pub red: &'static [u8; 256],
+    pub green: &'static [u8; 256],
+    pub thresholds: &'static [u16],
 }
 
-// The default green of each byte.
-pub fn green_table() -> [u8; 256]
-    ensures { Table green result }
-{
-    numbers::GREEN
+// The suppressed red and green of each byte, a table for each floor.
+#[derive(Clone, Copy)]
+struct Floors {
+    reds: &'static [[u8; 256]; 38],
+    greens: &'static [[u8; 256]; 38],
 }
 
-// The suppressed red of each byte, for all floors.
-fn red_floors() -> [[u8; 256]; 38]
-    ensures { Tables red_above result }
-{
-    numbers::RED_ABOVE
+impl Floors {
+    // All floors.
+    fn all() -> Self
+        ensures reds { Tables red_above result.reds.now }
+        ensures greens { Tables green_above result.greens.now }
+    {
+        Floors {
+            reds: &numbers::RED_ABOVE,
+            greens: &numbers::GREEN_ABOVE,
+        }
+    }
 }
 
-// The suppressed green of each byte, for all floors.
-fn green_floors() -> [[u8; 256]; 38]
-    ensures { Tables green_above result }
+// The ratios at which the suppressed blue rises, above whatever floor.
+pub fn blue_above_thresholds() -> &'static [u16]
+    ensures { Thresholds 918 8 result.now }
 {
-    numbers::GREEN_ABOVE
+    &numbers::BLUE_ABOVE
 }
 
-// The red of each byte above the floor f.
-pub fn red_above_table(f: usize) -> [u8; 256]
-    requires { (3 ≤ f) × (f ≤ 40) }
-    ensures { Table (red_above f) result }
-{
-    let reds = red_floors();
-    reds[f - 3]
-}
+impl ColourTables {
+    // The default tables.
+    pub fn plain() -> Self
+        ensures red { Table red result.red.now }
+        ensures green { Table green result.green.now }
+        ensures blue { Thresholds 1224 0 result.thresholds.now }
+    {
+        ColourTables {
+            red: &numbers::RED,
+            green: &numbers::GREEN,
+            thresholds: &numbers::BLUE,
+        }
+    }
 
-// The green of each byte above the floor f.
-pub fn green_above_table(f: usize) -> [u8; 256]
-    requires { (3 ≤ f) × (f ≤ 40) }
-    ensures { Table (green_above f) result }
-{
-    let greens = green_floors();
-    greens[f - 3]
-}
-
-// The ratios at which the default blue rises.
-pub fn blue_thresholds() -> [u16; 216]
-    ensures { Thresholds 1224 0 result }
-{
-    numbers::BLUE
-}
-
-// The ratios at which the suppressed blue rises.
-pub fn blue_above_thresholds() -> [u16; 132]
-    ensures { Thresholds 918 8 result }
-{
-    numbers::BLUE_ABOVE
+    // The suppressed tables above the floor f.
+    pub fn above(f: usize) -> Self
+        requires { (3 ≤ f) × (f ≤ 40) }
+        ensures red { Table (red_above f) result.red.now }
+        ensures green { Table (green_above f) result.green.now }
+        ensures blue { Thresholds 918 8 result.thresholds.now }
+    {
+        let floors = Floors::all();
+        ColourTables {
+            red: &floors.reds[f - 3],
+            green: &floors.greens[f - 3],
+            thresholds: blue_above_thresholds(),
+        }
+    }
 }

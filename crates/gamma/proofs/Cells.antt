@@ -3,7 +3,7 @@ use mathlib.Core.Path.{◌≡◌, refl, sym, ap, ◌∙◌, subst}
 use mathlib.Core.Logic.{◌⊎◌, inl, inr}
 use mathlib.Core.Bool.{false}
 use mathlib.Core.List.{List}
-use Prim.Native.Nat.{ℕ, suc, ◌+◌, ◌-◌, ◌≤◌, ◌<◌, zero-le}
+use Prim.Native.Nat.{ℕ, suc, ◌+◌, ◌-◌, ◌≤◌, ◌<◌}
 use native.Mathlib.Nat.{lt_of_le_of_lt, eq-or-lt_of_le}
 use native.Mathlib.Omega.{arith}
 use lib.Dec.{T, not_T}
@@ -19,7 +19,7 @@ use Rattle.numeric.specs.Round.{big64, nearest_small}
 use Rattle.numeric.proofs.Ops.{add-le, sub-le, mul-le}
 use Rattle.numeric.proofs.Picks.{clamped_le, clamped_hi, to_unsigned-le}
 use Rattle.numeric.proofs.Small.{clamp_float-small}
-use Rattle.gamma.specs.Thresholds.{cell_of, Row, Rising, Guess, Nearly, Rank}
+use Rattle.gamma.specs.Thresholds.{cell_of, Row, Rising, Guess, Nearly, Guesses, Rank}
 use Rattle.gamma.proofs.Laws.{value_is}
 
 -- 1023.0
@@ -142,12 +142,13 @@ nearly_next c g u =
       after = let a = u.after in omega arith;
     }
 
-pub nearly_start : (xs : List Float) → Nearly xs 0 0
-nearly_start xs = record { small = zero-le; before = λ z. absurd (omega arith); after = zero-le }
-
 -- a guess stored behind those before it
 pub guess_stored : {xs : List Float} (gs : List ℕ) (c g : ℕ) → c < length gs → Guess xs c g → ((k : ℕ) → k < c → Guess xs k (get_or gs k 0)) → (k : ℕ) → k < c + 1 → Guess xs k (get_or (set gs c g) k 0)
 guess_stored {xs} gs c g l u h k i = elim (eq-or-lt_of_le (let j : k ≤ c = omega arith in j)) [
   | inl e ↦ subst (λ (n : ℕ). Guess xs n (get_or (set gs c g) n 0)) (sym e) (rw (get_or-set_same gs c g 0 l) u)
   | inr j ↦ rw (get_or-set_other gs c k g 0 (λ e. omega arith)) (h k j)
 ]
+
+-- the guess of a cell, as the code reads it
+pub guess_at : {xs : List Float} {gs : List ℕ} {cell place g : ℕ} → Guesses xs gs → cell ≡ place → g ≡ get_or gs cell 0 → cell < 1024 → Guess xs place g
+guess_at all is here small = rw (here, ← is) (all.each _ small)

@@ -3,3 +3,4 @@ pub mod Sills
 pub mod Laws
 pub mod Cells
 pub mod Gammas
+pub mod Curved

@@ -1,2 +1,3 @@
 pub mod Thresholds
+pub mod Curved
 pub mod Gammas

@@ -1,25 +1,36 @@
 #![tactic(auto)]
 // Gamma at eight bits: the thresholds of 0.8, 0.9 and 1.1, and a value by them.
-ghost use Rattle.std.specs.Prelude.{◌≡◌, ◌≤◌, ◌<◌, length};
+ghost use Rattle.std.specs.Prelude.{◌≡◌, ◌<◌};
 ghost use Rattle.spec.specs.Gamma.{over, under, curve};
+ghost use Rattle.gamma.specs.Curved.{number, number_or_straight};
 ghost use Rattle.gamma.specs.Thresholds.{cell_of, Row, Rising, Rows, Guess, Nearly, Guesses, Values};
 
 mod numbers;
 
-// The number of a gamma: 0, 1, 2 for 0.8, 0.9, 1.1, and 3 for a straight line.
-pub fn curve_of(gamma: f64) -> usize
-    ensures { result ≡ curve gamma }
-{
-    if gamma == 0.8 {
-        return 0;
+// The gammas that curve at eight bits.
+#[derive(Clone, Copy)]
+pub enum CurvedGamma {
+    Gamma08,
+    Gamma09,
+    Gamma11,
+}
+
+impl CurvedGamma {
+    // The one that a gamma is, and none for a straight line.
+    #[tactic(auto, unfolding(spec::specs::Gamma::curve))]
+    pub fn of(gamma: f64) -> Option<CurvedGamma>
+        ensures { number_or_straight result ≡ curve gamma }
+    {
+        if gamma == 0.8 {
+            Some(CurvedGamma::Gamma08)
+        } else if gamma == 0.9 {
+            Some(CurvedGamma::Gamma09)
+        } else if gamma == 1.1 {
+            Some(CurvedGamma::Gamma11)
+        } else {
+            None
+        }
     }
-    if gamma == 0.9 {
-        return 1;
-    }
-    if gamma == 1.1 {
-        return 2;
-    }
-    3
 }
 
 // The thresholds of all three gammas.
@@ -29,14 +40,13 @@ fn all_thresholds() -> [[f64; 255]; 3]
     numbers::THRESHOLDS
 }
 
-// The thresholds of 0.8, 0.9 or 1.1.
-pub fn thresholds(gamma: usize) -> [f64; 255]
-    requires { gamma < 3 }
-    ensures fact_1 { Row (over gamma) (under gamma) result }
-    ensures fact_2 { Rising result }
+// The thresholds of one of them.
+fn thresholds(gamma: CurvedGamma) -> [f64; 255]
+    ensures row { Row (over (number gamma)) (under (number gamma)) result }
+    ensures rising { Rising result }
 {
     let all = all_thresholds();
-    all[gamma]
+    all[gamma as usize]
 }
 
 // The cell of 0..1 in which t lies.
@@ -55,38 +65,56 @@ fn guess_of(below: usize, cell: usize, thresholds: &[f64; 255]) -> usize
     ensures { Guess thresholds.now cell result }
 {
     if cell_of(thresholds[below]) < cell {
-        return below + 1;
-    }
-    below
-}
-
-// How many thresholds lie in cells before each.
-pub fn fill_guesses(thresholds: &[f64; 255], guesses: &mut [u8])
-    requires fact_1 { Rising thresholds.now }
-    requires fact_2 { length guesses.old ≡ 1024 }
-    ensures { Guesses thresholds.now guesses.new }
-{
-    let mut below: usize = 0;
-    let mut cell: usize = 0;
-    while cell < guesses.len() {
-        below = guess_of(below, cell, thresholds);
-        guesses[cell] = below as u8;
-        cell += 1;
-    }
-}
-
-// The value of t: the thresholds in cells before its own, and the one in its own if t reaches it.
-pub fn gamma_value(t: f64, thresholds: &[f64; 255], guesses: &[u8; 1024]) -> u8
-    requires fact_1 { Rising thresholds.now }
-    requires fact_2 { Guesses thresholds.now guesses.now }
-    ensures { Values thresholds.now t result }
-{
-    let cell = cell_of(t);
-    let below = guesses[cell];
-    let next = below as usize;
-    if thresholds[next] <= t {
         below + 1
     } else {
         below
+    }
+}
+
+// How many thresholds lie in cells before each.
+pub fn guesses_of(thresholds: &[f64; 255]) -> [u8; 1024]
+    requires { Rising thresholds.now }
+    ensures { Guesses thresholds.now result }
+{
+    let mut guesses: [u8; 1024] = [0; 1024];
+    let mut below: usize = 0;
+    for (cell, guess) in guesses.iter_mut().enumerate() {
+        below = guess_of(below, cell, thresholds);
+        *guess = below as u8;
+    }
+    guesses
+}
+
+// The thresholds of one gamma, and how many of them lie in cells before each.
+#[derive(Drop)]
+pub struct Curve {
+    pub thresholds: [f64; 255],
+    pub guesses: [u8; 1024],
+    pub ghost rising: { Rising thresholds },
+    pub ghost guessed: { Guesses thresholds guesses },
+}
+
+impl Curve {
+    pub fn new(gamma: CurvedGamma) -> Curve
+        ensures { Row (over (number gamma)) (under (number gamma)) result.thresholds }
+    {
+        let thresholds = thresholds(gamma);
+        let guesses = guesses_of(&thresholds);
+        Curve {
+            thresholds,
+            guesses,
+        }
+    }
+
+    // The value of t: the thresholds in cells before its own, and the one in its own if t reaches it.
+    pub fn value(&self, t: f64) -> u8
+        ensures { Values self.now.thresholds t result }
+    {
+        let below = self.guesses[cell_of(t)];
+        if self.thresholds[usize::from(below)] <= t {
+            below + 1
+        } else {
+            below
+        }
     }
 }

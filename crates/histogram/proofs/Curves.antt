@@ -6,6 +6,7 @@ use Prim.Native.Nat.{ℕ}
 use native.Mathlib.Omega.{arith}
 use lib.ListN.{length}
 use lib.Ieee.{Float}
+use Rattle.std.specs.Prelude.{Some, None}
 use Rattle.types.specs.declared.Moments.{Moments}
 use Rattle.spec.specs.Answer.{Answer, refused, done, first_of, answer, number, after}
 use Rattle.spec.specs.Moments.{no_moments}
@@ -14,7 +15,6 @@ use Rattle.spec.specs.Refusals.{sides_refused, lengths_refused, unlike, marks_re
 use Rattle.spec.specs.Bins.{bins_of}
 use Rattle.spec.specs.Curve.{curve_of, compute_histogram}
 use Rattle.raster.proofs.Bands.{Shaped, none_applies, or_false, named, sides_accepted, lengths_accepted, first_stays, first_later, first-here, first_not_here, first-none}
-use Rattle.histogram.specs.declared.moments.FirstPass.TheVariants.{Passed, BadDecibel}
 use Rattle.histogram.specs.Extremes.{extremes_from}
 use Rattle.histogram.specs.Passes.{extremes}
 use Rattle.histogram.proofs.Extremes.{bins-extremes, extremes-count}
@@ -58,14 +58,14 @@ module _ (rows cols : ℕ) (m : List ℕ) (d : List Float) (old : List ℕ) wher
         let n = lengths_accepted rows cols m d l.0 in
         (record { rows_most = s.0; cols_most = s.1; length_db = n.0; length-marks = n.1; marks_good = (none_applies 2 (marks_refused m) [] b.1).0 }, named (length old) 4096 l.1)
 
-    pub decibel_refused_lem : extremes px ≡ BadDecibel → Owed call old 4 old
+    pub decibel_refused_lem : extremes px ≡ None → Owed call old 4 old
     unfolding extremes
     decibel_refused_lem e =
         let b : decibels_refused px ≡ true = pass_bad px (extremes_from no_moments (valid_of px)) e in
         by_refusal call old 4
         (is_call 4 (first_later 0 shape (decibels_refused px ∷ []) good ∙ first-here 4 (decibels_refused px) [] b) ∙ answer-refused 4 (curve_of px) (λ z. omega (arith, z)))
 
-    module _ (s : Moments) (e : extremes px ≡ Passed s) where
+    module _ (s : Moments) (e : extremes px ≡ Some s) where
       passed_is : (decibels_refused px ≡ false) × (extremes_from no_moments (valid_of px) ≡ s)
       unfolding extremes
       passed_is = pass_good px (extremes_from no_moments (valid_of px)) s e

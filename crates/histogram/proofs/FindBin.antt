@@ -2,40 +2,23 @@
 use mathlib.Core.Path.{◌≡◌, refl, sym, ap, ◌∙◌}
 use mathlib.Core.Bool.{Bool, true, false, cond}
 use mathlib.Core.List.{List, [], ◌∷◌}
-use Prim.Native.Nat.{ℕ, suc, ◌+◌, ◌-◌, ◌≤◌, ◌<◌, min, zero-le}
-use native.Mathlib.Nat.{le_of_lt, min-eq_left, min-eq_right, min-le_right}
+use Prim.Native.Nat.{ℕ, suc, ◌+◌, ◌-◌, ◌≤◌, ◌<◌}
+use native.Mathlib.Nat.{min-le_right}
 use native.Mathlib.Numerals.{add-one}
 use native.Mathlib.Omega.{arith}
 use borrow.Author.Tests.{lt-ltb, le-ltb}
 use lib.Dec.{ltb}
-use lib.ListN.{length, get_or, drop, length-drop}
+use lib.ListN.{length, get_or, drop, take, length-drop}
 use lib.Seq.{drop-cons, drop-length}
-use lib.Ieee.{Float, binary64, mul, div, lt, to_unsigned}
+use lib.Ieee.{Float}
+use Rattle.std.proofs.lemmas.List.{get_or-take, length-take-le}
 use Rattle.types.specs.declared.BinRank.{BinRank}
 use Rattle.types.specs.declared.Moments.{Moments}
 use Rattle.types.specs.declared.Percentile.{Percentile}
-use Rattle.spec.specs.Floats.{half64, of_count}
-use Rattle.spec.specs.Moments.{span_of, is_flat}
-use Rattle.spec.specs.Bins.{bins64}
-use Rattle.spec.specs.Percentile.{target_of, find_bin, value_at, flat_percentile, spread_percentile, estimate_percentile}
+use Rattle.spec.specs.Moments.{is_flat}
+use Rattle.spec.specs.Percentile.{target_of, find_bin, flat_percentile, spread_percentile, estimate_percentile}
 
 -- ---- the target
-
-pub target_of-none : (p : Float) (count : ℕ) → count ≡ 0 → 0 ≡ target_of p count
-unfolding target_of
-target_of-none p count e = rw e (sym (min-eq_right zero-le))
-
-module _ (p : Float) (count n : ℕ) (e : n ≡ to_unsigned 64 (mul binary64 p (of_count count))) where
-  target_of_is : min n (count - 1) ≡ target_of p count
-  unfolding target_of
-  target_of_is = ap (λ (k : ℕ). min k (count - 1)) e
-
-  pub target_of_place : n < count - 1 → n ≡ target_of p count
-  target_of_place h = sym (min-eq_left (le_of_lt h)) ∙ target_of_is
-
-  -- "at most count - 1"
-  pub target_of-last : count - 1 ≤ n → count - 1 ≡ target_of p count
-  target_of-last h = sym (min-eq_right h) ∙ target_of_is
 
 pub target_of-most : (p : Float) (count : ℕ) → target_of p count ≤ count - 1
 unfolding target_of
@@ -81,6 +64,18 @@ module _ (t before : ℕ) where
     find_bin_next k g =
         rw add-one (ap (find_bin t before i) (drop-cons hist i 0 l) ∙ find_bin-on i (get_or hist i 0) (drop (suc i) hist) (omega (arith, length-drop (suc i) hist)) g)
 
+-- a place of the bins before the last
+pub before_last : (hist : List ℕ) (i : ℕ) → i < length (take (length hist - 1) hist) → (i + 1 < length hist) × (get_or (take (length hist - 1) hist) i 0 ≡ get_or hist i 0)
+before_last hist i h =
+    let e : length (take (length hist - 1) hist) ≡ length hist - 1 = length-take-le (length hist - 1) hist (omega arith) in
+    (omega arith, get_or-take (length hist - 1) hist i 0 (omega arith))
+
+-- the place that they end at
+pub last_place : (hist : List ℕ) (i : ℕ) → i ≤ length (take (length hist - 1) hist) → length (take (length hist - 1) hist) ≤ i → length hist - 1 ≡ i
+last_place hist i g h =
+    let e : length (take (length hist - 1) hist) ≡ length hist - 1 = length-take-le (length hist - 1) hist (omega arith) in
+    omega arith
+
 -- ---- where the walk ends
 
 pub find_bin_bin_most : (t before b : ℕ) (hs : List ℕ) → 0 < length hs → (find_bin t before b hs).bin < b + length hs
@@ -112,25 +107,6 @@ module _ (found : BinRank) (t : ℕ) (hist : List ℕ) (e : found ≡ find_bin t
   found_rank = omega (arith, ap (λ (r : BinRank). r.rank) e, find_bin_rank_most t 0 0 hist)
 
 -- ---- the percentile, flat or not
-
-abbrev pub at_zero : Float → Percentile
-at_zero v = record { value = v; bin = 0; rank = 0 }
-
-module _ (m : Moments) (p : Float) where
-  pub flat-above : lt half64 p ≡ true → at_zero m.max_db ≡ flat_percentile m p
-  unfolding flat_percentile
-  flat-above e = ap (λ (b : Bool). at_zero (cond b m.max_db m.min_db)) (sym e)
-
-  pub flat-below : lt half64 p ≡ false → at_zero m.min_db ≡ flat_percentile m p
-  unfolding flat_percentile
-  flat-below e = ap (λ (b : Bool). at_zero (cond b m.max_db m.min_db)) (sym e)
-
-abbrev pub found_at : BinRank → Float → Percentile
-found_at r v = record { value = v; bin = r.bin; rank = r.rank }
-
-pub spread_at : (m : Moments) (r : BinRank) (v : Float) → v ≡ value_at m.min_db (div binary64 (span_of m) bins64) r → found_at r v ≡ spread_percentile m r
-unfolding spread_percentile
-spread_at m r v e = ap (found_at r) e
 
 module _ (m : Moments) (hist : List ℕ) (p : Float) where
   pub percentile_flat : is_flat m ≡ true → flat_percentile m p ≡ estimate_percentile m hist p

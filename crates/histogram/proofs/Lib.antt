@@ -3,7 +3,6 @@ pub mod Filling
 pub mod FindBin
 pub mod Summaries
 pub mod Curves
-pub mod Places
 pub mod Statistics
 pub mod Counting
 pub mod Extremes

@@ -6,6 +6,7 @@ use Prim.Native.Nat.{ℕ, zero, suc}
 use native.Mathlib.Omega.{arith}
 use lib.ListN.{length}
 use lib.Ieee.{Float}
+use Rattle.std.specs.Prelude.{Some, None}
 use Rattle.types.specs.declared.HistogramStats.{HistogramStats}
 use Rattle.types.specs.declared.Moments.{Moments}
 use Rattle.types.specs.declared.Place.{Place}
@@ -16,48 +17,38 @@ use Rattle.spec.specs.Refusals.{sides_refused, lengths_refused, marks_refused, d
 use Rattle.spec.specs.Statistics.{summary, placed_statistics, compute_histogram_stats}
 use Rattle.spec.specs.Strongest.{strongest, place_in}
 use Rattle.raster.proofs.Bands.{first_stays, first_later, first-here, first_not_here, first-none}
-use Rattle.histogram.specs.declared.moments.FirstPass.TheVariants.{Passed, BadDecibel}
-use Rattle.histogram.specs.declared.place.PlacedPass.TheVariants.{Placed, BadPlaced}
 use Rattle.histogram.specs.Passes.{passed, placed_pass}
 use Rattle.histogram.proofs.Counting.{none-count}
 
 -- ---- a pass, by its answer
 
-passed_bad : (b : Bool) (s : Moments) → cond b BadDecibel (Passed s) ≡ BadDecibel → b ≡ true
+passed_bad : {A : Type 0} (b : Bool) (s : A) → cond b None (Some s) ≡ None → b ≡ true
 passed_bad true s e = refl
-passed_bad false s e = absurd (let z : ◌≡◌ {A = ℕ} 0 1 = cc in omega arith)
+passed_bad false s e = cc
 
-passed_good : (b : Bool) (s m : Moments) → cond b BadDecibel (Passed s) ≡ Passed m → (b ≡ false) × (s ≡ m)
-passed_good true s m e = absurd (let z : ◌≡◌ {A = ℕ} 0 1 = cc in omega arith)
+passed_good : {A : Type 0} (b : Bool) (s m : A) → cond b None (Some s) ≡ Some m → (b ≡ false) × (s ≡ m)
+passed_good true s m e = absurd cc
 passed_good false s m e = (refl, cc)
 
-pub pass_bad : (px : List Pixel) (s : Moments) → passed px s ≡ BadDecibel → decibels_refused px ≡ true
+pub pass_bad : {A : Type 0} (px : List Pixel) (s : A) → passed px s ≡ None → decibels_refused px ≡ true
 unfolding passed
 pass_bad px s e = passed_bad (decibels_refused px) s e
 
-pub pass_good : (px : List Pixel) (s m : Moments) → passed px s ≡ Passed m → (decibels_refused px ≡ false) × (s ≡ m)
+pub pass_good : {A : Type 0} (px : List Pixel) (s m : A) → passed px s ≡ Some m → (decibels_refused px ≡ false) × (s ≡ m)
 unfolding passed
 pass_good px s m e = passed_good (decibels_refused px) s m e
 
 -- the pass that keeps the place
-placed_good : (b : Bool) (s m : Moments) (p q : ℕ) → cond b BadPlaced (Placed s p) ≡ Placed m q → (b ≡ false) × (s ≡ m) × (p ≡ q)
-placed_good true s m p q e = absurd (let z : ◌≡◌ {A = ℕ} 0 1 = cc in omega arith)
-placed_good false s m p q e = (refl, cc, cc)
-
-placed_bad : (b : Bool) (s : Moments) (p : ℕ) → cond b BadPlaced (Placed s p) ≡ BadPlaced → b ≡ true
-placed_bad true s p e = refl
-placed_bad false s p e = absurd (let z : ◌≡◌ {A = ℕ} 0 1 = cc in omega arith)
-
 module _ (px : List Pixel) where
-  pub placed-refused : placed_pass px ≡ BadPlaced → decibels_refused px ≡ true
+  pub placed-refused : placed_pass px ≡ None → decibels_refused px ≡ true
   unfolding placed_pass
-  placed-refused e = placed_bad (decibels_refused px) (moments_from no_moments (valid_of px)) (strongest px) e
+  placed-refused e = pass_bad px (moments_from no_moments (valid_of px), strongest px) e
 
-  pub placed-passed : (m : Moments) (q : ℕ) → placed_pass px ≡ Placed m q → (decibels_refused px ≡ false) × (moments_from no_moments (valid_of px) ≡ m) × (strongest px ≡ q)
+  pub placed-passed : (m : Moments) (q : ℕ) → placed_pass px ≡ Some (m, q) → (decibels_refused px ≡ false) × (moments_from no_moments (valid_of px) ≡ m) × (strongest px ≡ q)
   unfolding placed_pass
-  placed-passed m q e = placed_good (decibels_refused px) (moments_from no_moments (valid_of px)) m (strongest px) q e
+  placed-passed m q e = let g = pass_good px (moments_from no_moments (valid_of px), strongest px) (m, q) e in (g.0, ap (λ (u : Moments × ℕ). u.0) g.1, ap (λ (u : Moments × ℕ). u.1) g.1)
 
-  pub placed-count : (m : Moments) (q : ℕ) → placed_pass px ≡ Placed m q → m.count ≡ length (valid_of px)
+  pub placed-count : (m : Moments) (q : ℕ) → placed_pass px ≡ Some (m, q) → m.count ≡ length (valid_of px)
   placed-count m q e = ap (λ (t : Moments). t.count) (sym (placed-passed m q e).1) ∙ none-count (valid_of px)
 
 -- ---- the call
@@ -87,12 +78,12 @@ module _ (rows cols : ℕ) (m : List ℕ) (d : List Float) where
       sym (is_call k (sym (first_stays 1 shape (decibels_refused px ∷ []) (λ z. n (e ∙ z))) ∙ sym e) ∙ answer-refused k (placed_statistics cols px) n)
 
   module _ (good : first_of 1 shape ≡ 0) where
-    pub call_bad : placed_pass px ≡ BadPlaced → refused 4 ≡ compute_histogram_stats rows cols m d
+    pub call_bad : placed_pass px ≡ None → refused 4 ≡ compute_histogram_stats rows cols m d
     call_bad e =
         let b : decibels_refused px ≡ true = placed-refused px e in
         sym (is_call 4 (first_later 0 shape (decibels_refused px ∷ []) good ∙ first-here 4 (decibels_refused px) [] b) ∙ answer-refused 4 (placed_statistics cols px) (λ z. omega (arith, z)))
 
-    pub call_done : (s : Moments) (q : ℕ) → placed_pass px ≡ Placed s q → (place : Place) → place ≡ place_in cols q → (r : HistogramStats) → r ≡ summary s place (valid_of px) →
+    pub call_done : (s : Moments) (q : ℕ) → placed_pass px ≡ Some (s, q) → (place : Place) → place ≡ place_in cols q → (r : HistogramStats) → r ≡ summary s place (valid_of px) →
         done r ≡ compute_histogram_stats rows cols m d
     unfolding placed_statistics
     call_done s q e place h r f =

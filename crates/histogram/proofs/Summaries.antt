@@ -7,17 +7,12 @@ use native.Mathlib.Nat.{add-zero, zero-add}
 use native.Mathlib.Omega.{arith}
 use lib.Dec.{lit<}
 use lib.ListN.{length, set, replicate}
-use lib.Ieee.{Float, binary64, div, of_bits}
-use Rattle.types.specs.declared.HistogramStats.{HistogramStats}
+use lib.Ieee.{Float, binary64, div}
 use Rattle.types.specs.declared.Moments.{Moments}
-use Rattle.types.specs.declared.Place.{Place}
-use Rattle.types.specs.declared.Percentile.{Percentile}
-use Rattle.spec.specs.Floats.{one64, half64}
+use Rattle.spec.specs.Floats.{one64}
 use Rattle.spec.specs.Moments.{span_of, is_flat}
 use Rattle.spec.specs.Bins.{bin_of, histogram, bins_of}
 use Rattle.spec.specs.Lists.{stored}
-use Rattle.spec.specs.Percentile.{estimate_percentile}
-use Rattle.spec.specs.Statistics.{deviation_of, gathered, summary}
 use Rattle.lists.proofs.Counts.{Below, stored-counts}
 use Rattle.histogram.proofs.Filling.{bin_most}
 
@@ -58,36 +53,3 @@ module _ (s : Moments) (vs : List Float) where
   spread_filled e hist new h f =
       f ∙ ap (λ (l : List ℕ). stored l (map (bin_of s.min_db (div binary64 one64 (span_of s))) vs)) h
       ∙ stored-counts 4096 (map (bin_of s.min_db (div binary64 one64 (span_of s))) vs) (bins-below s.min_db (div binary64 one64 (span_of s)) vs) ∙ rw e
-
-  pub summary_counted : (place : Place) (hist : List ℕ) (r : HistogramStats) → hist ≡ bins_of s vs → r ≡ gathered s place (estimate_percentile s hist) → r ≡ summary s place vs
-  unfolding summary
-  summary_counted place hist r h e = e ∙ ap (λ (l : List ℕ). gathered s place (estimate_percentile s l)) h
-
--- the record, from a deviation and eleven percentiles
-pub gathered_parts : (s : Moments) (place : Place) (p : Float → Percentile) (deviation : Float) (median p01 p02 p05 p10 p25 p75 p90 p95 p98 p99 : Percentile) → deviation ≡ deviation_of s →
-    median ≡ p half64 → p01 ≡ p (of_bits binary64 0x3f84_7ae1_47ae_147b) → p02 ≡ p (of_bits binary64 0x3f94_7ae1_47ae_147b) → p05 ≡ p (of_bits binary64 0x3fa9_9999_9999_999a) → p10 ≡ p (of_bits binary64 0x3fb9_9999_9999_999a) → p25 ≡ p (of_bits binary64 0x3fd0_0000_0000_0000) → p75 ≡ p (of_bits binary64 0x3fe8_0000_0000_0000) → p90 ≡ p (of_bits binary64 0x3fec_cccc_cccc_cccd) → p95 ≡ p (of_bits binary64 0x3fee_6666_6666_6666) → p98 ≡ p (of_bits binary64 0x3fef_5c28_f5c2_8f5c) → p99 ≡ p (of_bits binary64 0x3fef_ae14_7ae1_47ae) →
-    record {
-      valid_count = s.count;
-      min_db = s.min_db;
-      max_db = s.max_db;
-      mean_db = s.mean;
-      std_db = deviation;
-      median_db = median.value;
-      p01 = p01.value;
-      p02 = p02.value;
-      p05 = p05.value;
-      p10 = p10.value;
-      p25 = p25.value;
-      p75 = p75.value;
-      p90 = p90.value;
-      p95 = p95.value;
-      p98 = p98.value;
-      p99 = p99.value;
-      p05_bin = p05.bin;
-      p95_bin = p95.bin;
-      max_row = place.row;
-      max_col = place.col;
-    }
-    ≡ gathered s place p
-unfolding gathered
-gathered_parts s place p deviation median p01 p02 p05 p10 p25 p75 p90 p95 p98 p99 e e0 e1 e2 e3 e4 e5 e6 e7 e8 e9 e10 = cc

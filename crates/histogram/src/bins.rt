@@ -21,14 +21,10 @@ fn fill_bins(db: &[f64], valid_mask: &[u8], min_db: f64, inv_span: f64, hist: &m
     requires { (length valid_mask.now ≡ length db.now) × (length hist.old ≡ 4096) × ((k : ℕ) → get_or hist.old k 0 + length db.now < 2 ^ 32) }
     ensures { hist.new ≡ stored hist.old (map (bin_of min_db inv_span) (valid_of (pixels valid_mask.now db.now))) }
 {
-    let mut i: usize = 0;
-    while i < db.len() {
+    for (i, v) in db.iter().enumerate() {
         if valid_mask[i] != 0 {
-            let bin = bin_of(db[i], min_db, inv_span);
-            let n = hist[bin];
-            hist[bin] = n + 1;
+            hist[bin_of(*v, min_db, inv_span)] += 1;
         }
-        i += 1;
     }
 }
 

@@ -12,54 +12,48 @@ use types::{HistogramStats, Moments, Place, Reply, StatisticsAnswer};
 
 mod bins;
 pub mod moments;
+mod pass;
 mod percentile;
 mod place;
 
 // "deviation = root of m2/count, 0 for count 1".
+#[tactic(auto, unfolding(spec::specs::Statistics::deviation_of))]
 fn deviation_of(m: Moments) -> f64
     ensures { result ≡ deviation_of m }
 {
     if m.count > 1 {
-        return numeric::sqrt_f64(m.m2 / (m.count as f64));
+        numeric::sqrt_f64(m.m2 / (m.count as f64))
+    } else {
+        0.0
     }
-    0.0
 }
 
 // The record from moments and bins.
+#[tactic(auto, unfolding(spec::specs::Statistics::gathered))]
 fn stats_from_bins(m: Moments, place: Place, hist: &[u32]) -> HistogramStats
     requires { length hist.now ≡ 4096 }
     ensures { result ≡ gathered m place (estimate_percentile m hist.now) }
 {
-    let valid_count = m.count as usize;
-    let std_db = deviation_of(m);
-    let median = percentile::estimate_percentile(m, hist, 0.5);
-    let p01 = percentile::estimate_percentile(m, hist, 0.01);
-    let p02 = percentile::estimate_percentile(m, hist, 0.02);
-    let p05 = percentile::estimate_percentile(m, hist, 0.05);
-    let p10 = percentile::estimate_percentile(m, hist, 0.10);
-    let p25 = percentile::estimate_percentile(m, hist, 0.25);
-    let p75 = percentile::estimate_percentile(m, hist, 0.75);
-    let p90 = percentile::estimate_percentile(m, hist, 0.90);
-    let p95 = percentile::estimate_percentile(m, hist, 0.95);
-    let p98 = percentile::estimate_percentile(m, hist, 0.98);
-    let p99 = percentile::estimate_percentile(m, hist, 0.99);
+    let at = |p| percentile::estimate_percentile(m, hist, p);
+    let p05 = at(0.05);
+    let p95 = at(0.95);
     HistogramStats {
-        valid_count: valid_count,
+        valid_count: m.count as usize,
         min_db: m.min_db,
         max_db: m.max_db,
         mean_db: m.mean,
-        std_db: std_db,
-        median_db: median.value,
-        p01: p01.value,
-        p02: p02.value,
+        std_db: deviation_of(m),
+        median_db: at(0.5).value,
+        p01: at(0.01).value,
+        p02: at(0.02).value,
         p05: p05.value,
-        p10: p10.value,
-        p25: p25.value,
-        p75: p75.value,
-        p90: p90.value,
+        p10: at(0.10).value,
+        p25: at(0.25).value,
+        p75: at(0.75).value,
+        p90: at(0.90).value,
         p95: p95.value,
-        p98: p98.value,
-        p99: p99.value,
+        p98: at(0.98).value,
+        p99: at(0.99).value,
         p05_bin: p05.bin,
         p95_bin: p95.bin,
         max_row: place.row,
@@ -90,7 +84,7 @@ pub fn compute_histogram_stats(
     if refusal != 0 {
         return StatisticsAnswer::Refused(refusal);
     }
-    let place::PlacedPass::Placed(m, at) = place::placed_pass(db, valid_mask) else {
+    let Some((m, at)) = place::placed_pass(db, valid_mask) else {
         return StatisticsAnswer::Refused(4);
     };
     StatisticsAnswer::Statistics(summary(db, valid_mask, m, place::place_in(cols, at)))
@@ -132,10 +126,10 @@ pub fn compute_histogram(
     if refusal != 0 {
         return Reply::Refused(refusal);
     }
-    let moments::FirstPass::Passed(m) = moments::extremes(db, valid_mask) else {
+    let Some(m) = moments::extremes(db, valid_mask) else {
         return Reply::Refused(4);
     };
-    lists::clear_u32(hist);
+    hist.fill(0);
     bins::count_bins(db, valid_mask, m, hist);
     Reply::Done
 }

@@ -6,16 +6,11 @@ ghost use Rattle.spec.specs.Pixels.{pixels};
 ghost use Rattle.histogram.specs.Extremes.{with_extreme};
 ghost use Rattle.histogram.specs.Passes.{first_pass, extremes};
 
+use super::pass;
 use types::Moments;
 
-// What a pass over a band finds: the moments of its valid dB, or that one of them is refused.
-#[derive(Clone, Copy)]
-pub enum FirstPass {
-    Passed(Moments),
-    BadDecibel,
-}
-
 // Before the first value.
+#[tactic(auto, unfolding(spec::specs::Moments::no_moments))]
 pub(crate) fn no_moments() -> Moments
     ensures { result ≡ no_moments }
 {
@@ -32,23 +27,19 @@ pub(crate) fn no_moments() -> Moments
 fn least_met(first: bool, least: f64, v: f64) -> f64
     ensures { result ≡ cond (first || lt v least) v least }
 {
-    if first {
-        return v;
-    }
-    if v < least { v } else { least }
+    if first || v < least { v } else { least }
 }
 
 // The greatest with one value more, likewise.
+// Kept: least and greatest in two functions; one that takes the comparison is longer than both.
 fn greatest_met(first: bool, greatest: f64, v: f64) -> f64
     ensures { result ≡ cond (first || lt greatest v) v greatest }
 {
-    if first {
-        return v;
-    }
-    if v > greatest { v } else { greatest }
+    if first || v > greatest { v } else { greatest }
 }
 
 // Count, least and greatest with one value more.
+#[tactic(auto, unfolding(crate::specs::Extremes::with_extreme))]
 fn with_extreme(m: Moments, v: f64) -> Moments
     requires { m.count + 1 < 2 ^ 32 }
     ensures { result ≡ with_extreme m v }
@@ -58,12 +49,12 @@ fn with_extreme(m: Moments, v: f64) -> Moments
         count: m.count + 1,
         min_db: least_met(first, m.min_db, v),
         max_db: greatest_met(first, m.max_db, v),
-        mean: m.mean,
-        m2: m.m2,
+        ..m
     }
 }
 
 // All moments with one value more.
+#[tactic(auto, unfolding(spec::specs::Moments::with_value, crate::specs::Extremes::with_extreme))]
 pub(crate) fn with_value(m: Moments, v: f64) -> Moments
     requires { m.count + 1 < 2 ^ 32 }
     ensures { result ≡ with_value m v }
@@ -73,15 +64,14 @@ pub(crate) fn with_value(m: Moments, v: f64) -> Moments
     let mean = m.mean + delta / (next.count as f64);
     let delta2 = v - mean;
     Moments {
-        count: next.count,
-        min_db: next.min_db,
-        max_db: next.max_db,
-        mean: mean,
+        mean,
         m2: m.m2 + delta * delta2,
+        ..next
     }
 }
 
 // "max - min < 2^-52".
+#[tactic(auto, unfolding(spec::specs::Moments::is_flat, spec::specs::Moments::span_of))]
 pub(crate) fn is_flat(m: Moments) -> bool
     ensures { result ≡ is_flat m }
 {
@@ -89,42 +79,17 @@ pub(crate) fn is_flat(m: Moments) -> bool
 }
 
 // The moments of the valid dB, unless one of them is refused.
-pub fn first_pass(db: &[f64], valid_mask: &[u8]) -> FirstPass
+pub fn first_pass(db: &[f64], valid_mask: &[u8]) -> Option<Moments>
     requires { (length valid_mask.now ≡ length db.now) × (length db.now < 2 ^ 32) }
     ensures { result ≡ first_pass (pixels valid_mask.now db.now) }
 {
-    let mut m = no_moments();
-    let mut i: usize = 0;
-    while i < db.len() {
-        if valid_mask[i] != 0 {
-            let v = db[i];
-            if raster::decibel_refused(v) {
-                return FirstPass::BadDecibel;
-            }
-            m = with_value(m, v);
-        }
-        i += 1;
-    }
-    FirstPass::Passed(m)
+    pass::gather_valid(db, valid_mask, no_moments(), |m, v, _| with_value(m, v))
 }
 
 // The same with mean and m2 left at 0, for those who read neither.
-pub fn extremes(db: &[f64], valid_mask: &[u8]) -> FirstPass
+pub fn extremes(db: &[f64], valid_mask: &[u8]) -> Option<Moments>
     requires { (length valid_mask.now ≡ length db.now) × (length db.now < 2 ^ 32) }
     ensures { result ≡ extremes (pixels valid_mask.now db.now) }
 {
-    let mut m = no_moments();
-    let mut i: usize = 0;
-    while i < db.len() {
-        let mark = valid_mask[i];
-        if mark != 0 {
-            let v = db[i];
-            if raster::decibel_refused(v) {
-                return FirstPass::BadDecibel;
-            }
-            m = with_extreme(m, v);
-        }
-        i += 1;
-    }
-    FirstPass::Passed(m)
+    pass::gather_valid(db, valid_mask, no_moments(), |m, v, _| with_extreme(m, v))
 }

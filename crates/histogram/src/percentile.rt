@@ -3,18 +3,16 @@ ghost use Rattle.std.specs.Prelude.{◌≡◌, ◌<◌, ◌^◌, length};
 ghost use Rattle.spec.specs.Percentile.{target_of, find_bin, value_at, flat_percentile, spread_percentile, estimate_percentile};
 
 use super::moments;
+use numeric::Binary;
 use types::{BinRank, Moments, Percentile};
 
 // "target = floor(p × count), at most count - 1"; 0 for no value.
+#[tactic(auto, unfolding(spec::specs::Percentile::target_of))]
 fn target_of(p: f64, count: u32) -> u64
     ensures { result ≡ target_of p count }
 {
-    let place = numeric::f64_as_u64(p * (count as f64));
-    if count == 0 {
-        return 0;
-    }
-    let last = (count - 1) as u64;
-    if place < last { place } else { last }
+    let place = (p * (count as f64)).as_u64();
+    place.min(u64::from(count.saturating_sub(1)))
 }
 
 // "take the first bin whose running count exceeds the target": the last bin if none does.
@@ -22,63 +20,54 @@ fn find_bin(hist: &[u32], target: u64) -> BinRank
     requires { (length hist.now ≡ 4096) × (target < 2 ^ 32) }
     ensures { result ≡ find_bin target 0 0 hist.now }
 {
-    let mut bin: usize = 0;
+    let last = hist.len() - 1;
     let mut before: u64 = 0;
-    let found = loop {
-        let size = hist[bin];
-        let next = before + (size as u64);
+    for (bin, size) in hist[..last].iter().enumerate() {
+        let next = before + u64::from(*size);
         if target < next {
-            break BinRank {
-                bin: bin,
-                size: size,
-                rank: target - before,
-            };
-        }
-        if bin == 4095 {
-            break BinRank {
-                bin: bin,
-                size: size,
+            return BinRank {
+                bin,
+                size: *size,
                 rank: target - before,
             };
         }
         before = next;
-        bin += 1;
-    };
-    found
+    }
+    BinRank {
+        bin: last,
+        size: hist[last],
+        rank: target - before,
+    }
 }
 
 // "the value is (min + bin × width) + (w/h) × width".
+#[tactic(auto, unfolding(spec::specs::Percentile::value_at))]
 fn value_at(min_db: f64, bin_width: f64, found: BinRank) -> f64
     requires { (found.bin < 2 ^ 32) × (found.rank < 2 ^ 32) }
     ensures { result ≡ value_at min_db bin_width found }
 {
     let bin = found.bin as u32;
     let within = found.rank as u32;
-    let size = found.size;
     let bin_start = min_db + (bin as f64) * bin_width;
-    let frac = (within as f64) / (size as f64);
+    let frac = (within as f64) / (found.size as f64);
     bin_start + frac * bin_width
 }
 
 // "median, p01 to p25 are min; p75 to p99 are max", in bin 0 at rank 0.
+#[tactic(auto, unfolding(spec::specs::Percentile::flat_percentile))]
 fn flat_percentile(m: Moments, p: f64) -> Percentile
     ensures { result ≡ flat_percentile m p }
 {
-    if p > 0.5 {
-        return Percentile {
-            value: m.max_db,
-            bin: 0,
-            rank: 0,
-        };
-    }
+    let value = if p > 0.5 { m.max_db } else { m.min_db };
     Percentile {
-        value: m.min_db,
+        value,
         bin: 0,
         rank: 0,
     }
 }
 
 // What was found in the bins, and its value.
+#[tactic(auto, unfolding(spec::specs::Percentile::spread_percentile, spec::specs::Moments::span_of))]
 fn spread_percentile(m: Moments, found: BinRank) -> Percentile
     requires { (found.bin < 2 ^ 32) × (found.rank < 2 ^ 32) }
     ensures { result ≡ spread_percentile m found }
@@ -98,9 +87,10 @@ pub(crate) fn estimate_percentile(m: Moments, hist: &[u32], p: f64) -> Percentil
     ensures { result ≡ estimate_percentile m hist.now p }
 {
     if moments::is_flat(m) {
-        return flat_percentile(m, p);
+        flat_percentile(m, p)
+    } else {
+        let target = target_of(p, m.count);
+        let found = find_bin(hist, target);
+        spread_percentile(m, found)
     }
-    let target = target_of(p, m.count);
-    let found = find_bin(hist, target);
-    spread_percentile(m, found)
 }

@@ -20,10 +20,8 @@ fn fill_marks(processed: &[f32], valid_mask: &mut [u8])
     requires { length valid_mask.old ≡ length processed.now }
     ensures { valid_mask.new ≡ map mark_of processed.now }
 {
-    let mut i = 0;
-    while i < valid_mask.len() {
-        valid_mask[i] = mark_of(processed[i]);
-        i += 1;
+    for (i, x) in processed.iter().enumerate() {
+        valid_mask[i] = mark_of(*x);
     }
 }
 

@@ -5,6 +5,7 @@ pub mod Picks
 pub mod Exact
 pub mod Casts
 pub mod Facts
+pub mod Full
 pub mod Values
 pub mod Away
 pub mod Small

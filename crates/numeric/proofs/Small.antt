@@ -165,6 +165,9 @@ near x b =
       under = omega (arith, n.1);
     }
 
+pub nearly : (x r : Float) → T (le zero64 x) × T (le x full16) → r ≡ sub binary64 (add binary64 x big64) big64 → Near x r
+nearly x r b e = subst (Near x) (sym e) (near x b)
+
 -- ---- the fraction dropped: one less where r is above x
 cut : (x : Float) (n : ℕ) → n ≤ 65535 → T (finite x) → n * den x ≤ plus x → plus x < (n + 1) * den x → n ≡ to_unsigned 64 x
 cut x n s p h k = let d : plus x / den x ≡ n = div-eq_of_lt-le (den x) h k in omega (arith, whole_of 64 x p)
@@ -197,11 +200,18 @@ module _ {x r : Float} (c : Near x r) where
   is_whole : cast ≡ c.whole
   is_whole = ap nat_abs read_back
 
-  pub few : cast ≤ 65535
-  few = omega (arith, is_whole, c.small)
+  whole_back : to_unsigned 64 r ≡ c.whole
+  whole_back = ap (to_unsigned 64) c.is ∙ count_back 64 c.whole (omega (arith, c.small)) (omega (arith, c.small))
 
   pub nearest_is : cast ≡ to_unsigned 64 r
-  nearest_is = is_whole ∙ sym (ap (to_unsigned 64) c.is ∙ count_back 64 c.whole (omega (arith, c.small)) (omega (arith, c.small)))
+  nearest_is = is_whole ∙ sym whole_back
+
+module _ {x r : Float} (c : Near x r) {cast : ℕ} (e : cast ≡ to_unsigned 64 r) where
+  is_whole' : cast ≡ c.whole
+  is_whole' = e ∙ whole_back c
+
+  pub few : cast ≤ 65535
+  few = omega (arith, is_whole', c.small)
 
   pub not_above : lt x r ≡ false → cast ≡ to_unsigned 64 x
   not_above e =
@@ -209,7 +219,7 @@ module _ {x r : Float} (c : Near x r) where
       let v = count-value n (omega (arith, c.small)) in
       let l : T (le (of_count n) x) = le_of_not_lt x (of_count n) (number_of_finite x c.finite_x) (number_of_finite (of_count n) (value-finite (of_count n) n 1 v)) (subst (λ (z : Float). T (not (lt x z))) c.is (subst (λ (b : Bool). T (not b)) (sym e) tt)) in
       let g = value-below (of_count n) x n 1 (lit< tt) v c.finite_x c.nonneg_x l in
-      is_whole ∙ cut x n c.small c.finite_x (omega (arith, g)) (simp add-mul (omega (arith, c.under, den_pos x)))
+      is_whole' ∙ cut x n c.small c.finite_x (omega (arith, g)) (simp add-mul (omega (arith, c.under, den_pos x)))
 
   pub above_x : lt x r ≡ true → (1 ≤ cast) × (cast - 1 ≡ to_unsigned 64 x)
   above_x e =
@@ -219,7 +229,7 @@ module _ {x r : Float} (c : Near x r) where
       let g : plus x < n * den x = lt_of_not-le (λ (j : n * den x ≤ plus x). lt_not_ge x (of_count n) l (value-above (of_count n) x n 1 (lit< tt) v c.finite_x c.nonneg_x (omega (arith, j)))) in
       let o : 1 ≤ n = some n (den x) (plus x) g in
       let b : n * den x ≡ (n - 1) * den x + den x = ap (λ (w : ℕ). w * den x) (let u : n ≡ n - 1 + 1 = omega arith in u) ∙ add-mul (n - 1) 1 (den x) ∙ ap (λ (w : ℕ). (n - 1) * den x + w) (native.Mathlib.Nat.one-mul (den x)) in
-      let w = is_whole in
+      let w = is_whole' in
       (omega arith, ap (λ (k : ℕ). k - 1) w ∙ cut x (n - 1) (omega (arith, c.small)) c.finite_x (omega (arith, c.above, b, den_pos x)) (simp add-mul (omega (arith, g, b))))
     where
       some : (n d a : ℕ) → a < n * d → 1 ≤ n
@@ -235,7 +245,7 @@ module _ {x r : Float} (c : Near x r) where
   reached h =
       let n = c.whole in
       let g : (n * 2 + 1) * den x ≤ plus x * 2 = value-below (add binary64 r half64) x (n * 2 + 1) 2 (lit< tt) middle_value c.finite_x c.nonneg_x (holds h) in
-      ap (λ (k : ℕ). k + 1) is_whole ∙ turned x (n + 1) (omega (arith, c.small)) c.finite_x
+      ap (λ (k : ℕ). k + 1) is_whole' ∙ turned x (n + 1) (omega (arith, c.small)) c.finite_x
       (up_from n (plus x) (den x) g)
       (under-from n (plus x) (den x) (den_pos x) c.under)
 
@@ -244,7 +254,7 @@ module _ {x r : Float} (c : Near x r) where
       let n = c.whole in
       let g : plus x * 2 < (n * 2 + 1) * den x = lt_of_not-le (λ (j : (n * 2 + 1) * den x ≤ plus x * 2).
       T_not (le (add binary64 r half64) x) (fails h) (value-above (add binary64 r half64) x (n * 2 + 1) 2 (lit< tt) middle_value c.finite_x c.nonneg_x j)) in
-      is_whole ∙ turned x n (omega (arith, c.small)) c.finite_x (above_from n (plus x) (den x) c.above) (down_from n (plus x) (den x) g)
+      is_whole' ∙ turned x n (omega (arith, c.small)) c.finite_x (above_from n (plus x) (den x) c.above) (down_from n (plus x) (den x) g)
 
 -- ---- a value held to 0..full, full being at most 65535.0, is such an x, and cuts to at most what full cuts to
 pub clamp_float-small : (full v : Float) → T (le zero64 full) → T (le full full16) → T (le zero64 (clamp_float zero64 full v)) × T (le (clamp_float zero64 full v) full16)

@@ -1,5 +1,5 @@
 -- "`round` goes half away from zero": to a float of the same format. Definitions only.
-use Rattle.std.specs.Prelude.{ℕ, ◌+◌, ◌*◌, ◌/◌, from_bits, Float}
+use Rattle.std.specs.Prelude.{ℕ, ◌+◌, ◌*◌, ◌/◌, false, negsuc, from_bits, Float}
 use Rattle.std.specs.Float.{nan, inf, fin, Format, binary64}
 use Rattle.std.specs.Float.Ieee.{up, down, round, add, sub, to_unsigned}
 
@@ -8,6 +8,10 @@ unfoldable pub round_float : Format → Float → Float
 round_float f nan = nan
 round_float f (inf s) = inf s
 round_float f (fin s m e) = round f s ((m * up e * 2 + down e) / (down e * 2)) 1
+
+-- 0.5, in either format
+abbrev pub half : Float
+half = fin false 1 (negsuc 0)
 
 -- 4503599627370496.0, 2^52
 abbrev pub big64 : Float

@@ -1,15 +1,18 @@
 #![tactic(auto)]
 // Steps on floats that the Rust takes by methods and by `as`, each bit-exact: picks, casts, rounding, the root.
-ghost use Rattle.std.specs.Prelude.{◌≡◌, ◌+◌, ◌*◌, ◌/◌, ◌%◌, ◌^◌, ◌<◌, ◌≤◌, T, from_bits};
-ghost use Rattle.std.specs.Float.{binary32, binary64};
-ghost use Rattle.std.specs.Float.Ieee.{to_unsigned, le};
+ghost use Rattle.std.specs.Prelude.{◌≡◌, ℕ, ◌+◌, ◌*◌, ◌/◌, ◌%◌, ◌^◌, ◌<◌, ◌≤◌, T, from_bits, Float, pos, refl};
+ghost use Rattle.std.specs.Float.{Format, binary32, binary64};
+ghost use Rattle.std.specs.Float.Ieee.{to_unsigned, add, sub, le, of_int, prec};
 ghost use Rattle.spec.specs.Floats.{zero64, max_float, min_float, clamp_float, abs_float, round_as_u64};
 ghost use Rattle.spec.specs.Value.{full16};
-ghost use Rattle.numeric.specs.Round.{round_float, nearest_small};
+ghost use Rattle.numeric.specs.Round.{round_float, half, big64, nearest_small};
 ghost use Rattle.spec.specs.Value as Value;
 ghost use Rattle.spec.specs.Root.{whole_root, root_of, sqrt_float};
 
+pub mod depth; // depth.rt: the two depths of grey
+
 // `f64::max`: a NaN in the first place loses, and of two equals the second is given.
+// Kept: of two equals std's may give either, and 0.0 and -0.0 are equal.
 pub fn max_f64(a: f64, b: f64) -> f64
     ensures { result ≡ max_float a b }
 {
@@ -31,185 +34,184 @@ pub fn clamp_f64(x: f64, low: f64, high: f64) -> f64
 }
 
 // The place of a value in a window: held to low..high, minus low, over range.
+#[tactic(auto, unfolding(spec::specs::Value::normalized))]
 pub fn normalized(v: f64, low: f64, high: f64, range: f64) -> f64
     ensures { result ≡ Value.normalized low high range v }
 {
     (clamp_f64(v, low, high) - low) / range
 }
 
-// `f64::abs`.
-pub fn abs_f64(x: f64) -> f64
-    ensures { result ≡ abs_float x }
-{
-    if x < 0.0 {
-        -x
-    } else if x == 0.0 {
-        0.0
-    } else {
-        x
+// `f32` and `f64`: what the Rust does by methods and by `as`, in the words of the pictures' definitions.
+pub trait Binary: Copy {
+    type Bits;
+
+    // the format of the type, a value as IEEE 754 has it, and a bit pattern as a number
+    ghost format: { Format };
+
+    ghost float: { Self → Float };
+
+    ghost pattern: { Self.Bits → ℕ };
+
+    // From here on every value is whole.
+    ghost WHOLE: { ℕ };
+
+    const WHOLE: u64;
+
+    // `abs`.
+    fn abs(self) -> Self
+        ensures { float result ≡ abs_float (float self) };
+
+    // `round`: half away from zero. A zero keeps its sign.
+    fn round(self) -> Self
+        ensures { float result ≡ round_float format (float self) };
+
+    // `as u64`: the fraction dropped, held to the range, 0 for a NaN.
+    fn as_u64(self) -> u64
+        ensures value { result ≡ to_unsigned 64 (float self) }
+        ensures whole { WHOLE ≤ result → result ≡ round_as_u64 (float self) };
+
+    // Whether it is n + 1/2 or above.
+    fn reaches_half(self, n: u64) -> bool
+        requires { n < WHOLE }
+        ensures { result ≡ le (add format (of_int format (pos n)) half) (float self) };
+
+    // `from_bits`: every NaN pattern gives the NaN.
+    fn of_bits(n: Self::Bits) -> Self
+        ensures { float result ≡ from_bits format (pattern n) };
+
+    // `round` and then `as u64`. By the whole part, which takes half the time of `self.round().as_u64()`.
+    fn round_as_u64(self) -> u64
+        ensures { result ≡ round_as_u64 (float self) }
+    {
+        let n = self.as_u64();
+        if n < Self::WHOLE && self.reaches_half(n) {
+            n + 1
+        } else {
+            n
+        }
+    }
+
+    ghost whole_law: { WHOLE * 2 ≡ 2 ^ prec format };
+}
+
+impl Binary for f64 {
+    type Bits = u64;
+
+    ghost format = { binary64 };
+
+    ghost float = { λ x. x };
+
+    ghost pattern = { λ n. n };
+
+    const WHOLE: u64 = 0x10_0000_0000_0000;
+
+    ghost WHOLE = { 0x10_0000_0000_0000 };
+
+    #[tactic(auto, using(crate::proofs::Facts::abs_is))]
+    fn abs(self) -> f64 {
+        f64::abs(self)
+    }
+
+    #[tactic(auto, using(crate::proofs::Away::round_is))]
+    fn round(self) -> f64 {
+        f64::round(self)
+    }
+
+    #[tactic(auto, using(crate::proofs::Facts::holds, crate::proofs::Away::large))]
+    fn as_u64(self) -> u64 {
+        std::num::saturating_f64_to_u64(self)
+    }
+
+    #[tactic(auto, using(crate::proofs::Away::whole_fits))]
+    fn reaches_half(self, n: u64) -> bool {
+        n as f64 + 0.5 <= self
+    }
+
+    ghost whole_law = { refl };
+
+    fn of_bits(n: u64) -> f64 {
+        std::num::f64_from_bits_with_nan(n)
     }
 }
 
-// `f32::abs`.
-pub fn abs_f32(x: f32) -> f32
-    ensures { result ≡ abs_float x }
-{
-    if x < 0.0f32 {
-        -x
-    } else if x == 0.0f32 {
-        0.0
-    } else {
-        x
+impl Binary for f32 {
+    type Bits = u32;
+
+    ghost format = { binary32 };
+
+    ghost float = { λ x. x };
+
+    ghost pattern = { λ n. n };
+
+    const WHOLE: u64 = 0x80_0000;
+
+    ghost WHOLE = { 0x80_0000 };
+
+    #[tactic(auto, using(crate::proofs::Facts::abs_is))]
+    fn abs(self) -> f32 {
+        f32::abs(self)
+    }
+
+    #[tactic(auto, using(crate::proofs::Away::round_is))]
+    fn round(self) -> f32 {
+        f32::round(self)
+    }
+
+    #[tactic(auto, using(crate::proofs::Facts::holds, crate::proofs::Away::large))]
+    fn as_u64(self) -> u64 {
+        std::num::saturating_f32_to_u64(self)
+    }
+
+    #[tactic(auto, using(crate::proofs::Away::whole_fits))]
+    fn reaches_half(self, n: u64) -> bool {
+        n as f32 + 0.5 <= self
+    }
+
+    ghost whole_law = { refl };
+
+    fn of_bits(n: u32) -> f32 {
+        std::num::f32_from_bits_with_nan(n)
     }
 }
 
-// `f64 as u64`: the fraction dropped, held to the range, 0 for a NaN.
-pub fn f64_as_u64(x: f64) -> u64
-    ensures { result ≡ to_unsigned 64 x }
+// The whole number nearest to an x from 0.0 to 65535.0, as a float and as an integer: 2^52 added and taken off leaves it.
+fn near(x: f64) -> (f64, u32)
+    requires fact_1 { T (le zero64 x) }
+    requires fact_2 { T (le x full16) }
+    ensures { (result.0 ≡ sub binary64 (add binary64 x big64) big64) × (result.1 ≡ to_unsigned 64 result.0) }
 {
-    if x > -1.0 {
-        if x < 18446744073709551616.0 {
-            return std::num::truncating_f64_to_u64(x);
-        }
-        return 18446744073709551615;
-    }
-    0
+    let nearest = x + 4503599627370496.0 - 4503599627370496.0;
+    (nearest, nearest as i32 as u32)
 }
 
-// `f32 as u64`, likewise.
-pub fn f32_as_u64(x: f32) -> u64
-    ensures { result ≡ to_unsigned 64 x }
-{
-    if x > -1.0f32 {
-        if x < 18446744073709551616.0f32 {
-            return std::num::truncating_f32_to_u64(x);
-        }
-        return 18446744073709551615;
-    }
-    0
-}
-
-// `f64::round` and then `as u64`: half away from zero. From 2^52 on every f64 is whole.
-#[tactic(auto, using(crate::proofs::Facts::holds, crate::proofs::Away::whole_fits, crate::proofs::Away::large))]
-pub fn round_f64_as_u64(x: f64) -> u64
-    ensures { result ≡ round_as_u64 x }
-{
-    let n = f64_as_u64(x);
-    if n < 4503599627370496 {
-        if n as f64 + 0.5 <= x {
-            return n + 1;
-        }
-    }
-    n
-}
-
-// `f32::round` and then `as u64`, likewise. From 2^23 on every f32 is whole.
-#[tactic(auto, using(crate::proofs::Facts::holds, crate::proofs::Away::whole_fits, crate::proofs::Away::large))]
-pub fn round_f32_as_u64(x: f32) -> u64
-    ensures { result ≡ round_as_u64 x }
-{
-    let n = f32_as_u64(x);
-    if n < 8388608 {
-        if n as f32 + 0.5 <= x {
-            return n + 1;
-        }
-    }
-    n
-}
-
-// `f64::round`: half away from zero. A zero keeps its sign, and from 2^52 on every f64 is whole.
-pub fn round_f64(x: f64) -> f64
-    ensures { result ≡ round_float binary64 x }
-{
-    if x > 0.0 {
-        if x < 4503599627370496.0 {
-            return round_f64_as_u64(x) as f64;
-        }
-        return x;
-    }
-    if x < 0.0 {
-        if -x < 4503599627370496.0 {
-            return -(round_f64_as_u64(-x) as f64);
-        }
-        return x;
-    }
-    x
-}
-
-// `f32::round`: likewise. From 2^23 on every f32 is whole.
-pub fn round_f32(x: f32) -> f32
-    ensures { result ≡ round_float binary32 x }
-{
-    if x > 0.0 {
-        if x < 8388608.0 {
-            return round_f32_as_u64(x) as f32;
-        }
-        return x;
-    }
-    if x < 0.0 {
-        if -x < 8388608.0 {
-            return -(round_f32_as_u64(-x) as f32);
-        }
-        return x;
-    }
-    x
-}
-
-// `f64::from_bits`: every NaN pattern gives the NaN.
-#[tactic(auto, using(crate::proofs::Casts::quotient64, crate::proofs::Casts::no_nan_ones, crate::proofs::Casts::no_nan_digits))]
-pub fn f64_from_bits(n: u64) -> f64
-    ensures { result ≡ from_bits binary64 n }
-{
-    if n % 0x8000_0000_0000_0000 / 0x10_0000_0000_0000 == 2047 {
-        if n % 0x10_0000_0000_0000 != 0 {
-            return 0.0 / 0.0;
-        }
-    }
-    f64::from_bits(n)
-}
-
-// `f32::from_bits`, likewise.
-#[tactic(auto, using(crate::proofs::Casts::quotient32, crate::proofs::Casts::no_nan_ones, crate::proofs::Casts::no_nan_digits))]
-pub fn f32_from_bits(n: u32) -> f32
-    ensures { result ≡ from_bits binary32 n }
-{
-    if n % 0x8000_0000 / 0x80_0000 == 255 {
-        if n % 0x80_0000 != 0 {
-            return 0.0 / 0.0;
-        }
-    }
-    f32::from_bits(n)
-}
-
-// The fraction dropped, for an x from 0.0 to 65535.0: 2^52 added and taken off leaves the nearest whole number.
+// The fraction dropped, for such an x.
 pub fn trunc_small(x: f64) -> u32
     requires fact_1 { T (le zero64 x) }
     requires fact_2 { T (le x full16) }
     ensures { result ≡ to_unsigned 64 x }
 {
-    let nearest = x + 4503599627370496.0 - 4503599627370496.0;
-    let n = nearest as i32 as u32;
+    let (nearest, n) = near(x);
     if nearest > x { n - 1 } else { n }
 }
 
-// The nearest whole number of an x from 0.0 to 65535.0: whatever 2^52 added and taken off leaves.
+// Whatever 2^52 added and taken off leaves, for such an x.
+#[tactic(auto, unfolding(crate::specs::Round::nearest_small))]
 pub fn nearest_small(x: f64) -> u32
     requires fact_1 { T (le zero64 x) }
     requires fact_2 { T (le x full16) }
     ensures { result ≡ nearest_small x }
 {
-    let nearest = x + 4503599627370496.0 - 4503599627370496.0;
-    nearest as i32 as u32
+    let (_, n) = near(x);
+    n
 }
 
-// `round` for an x from 0.0 to 65535.0: half away from zero.
+// `round` for such an x: half away from zero.
 pub fn round_small(x: f64) -> u32
     requires fact_1 { T (le zero64 x) }
     requires fact_2 { T (le x full16) }
     ensures { result ≡ round_as_u64 x }
 {
-    let nearest = x + 4503599627370496.0 - 4503599627370496.0;
-    let n = nearest as i32 as u32;
+    let (nearest, n) = near(x);
     if nearest + 0.5 <= x { n + 1 } else { n }
 }
 
@@ -233,13 +235,13 @@ fn next_digit(s: Rooting) -> Rooting
         Rooting {
             root: s.root * 2 + 1,
             rest: rest - trial,
-            digits: digits,
+            digits,
         }
     } else {
         Rooting {
             root: s.root * 2,
-            rest: rest,
-            digits: digits,
+            rest,
+            digits,
         }
     }
 }
@@ -252,12 +254,10 @@ fn whole_root(digits: u64) -> u64
     let mut s = Rooting {
         root: 0,
         rest: 0,
-        digits: digits,
+        digits,
     };
-    let mut i = 0u64;
-    while i < 54 {
+    for _ in 0..54u64 {
         s = next_digit(s);
-        i += 1;
     }
     s.root
 }
@@ -272,11 +272,11 @@ fn root_of(q: u64, k: u64) -> f64
     let up = u64::leading_zeros(q) as u64 - 11;
     let odd = (k + up) % 2;
     let root = whole_root(q << (up + odd));
-    f64_from_bits((k + 1022 - up - odd) / 2 * 0x10_0000_0000_0000 + (root + 1) / 2)
+    f64::of_bits((k + 1022 - up - odd) / 2 * 0x10_0000_0000_0000 + (root + 1) / 2)
 }
 
 // `f64::sqrt`: correctly rounded, the zeros and the infinity their own roots, the NaN below zero.
-#[tactic(auto, using(crate::proofs::Facts::holds, crate::proofs::Rooted::fields, crate::proofs::Rooted::normal, crate::proofs::Rooted::unbounded))]
+#[tactic(auto, using(crate::proofs::Facts::holds, crate::proofs::Rooted::fields, crate::proofs::Rooted::normal, crate::proofs::Rooted::unbounded, crate::proofs::Rooted::not_nan, crate::proofs::Rooted::subnormal, crate::proofs::Rooted::zero_root))]
 pub fn sqrt_f64(x: f64) -> f64
     ensures { result ≡ sqrt_float x }
 {

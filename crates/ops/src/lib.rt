@@ -7,6 +7,7 @@ ghost use Rattle.spec.specs.Refusals.{too_long, unlike};
 ghost use Rattle.spec.specs.Ops.{sum_op, difference_op, guarded_ratio, ratio_op, log_ratio_op, normalized_diff_op, operate_arrays};
 ghost use Rattle.ops.specs.Chosen.{operate};
 
+use numeric::Binary;
 use types::{PolarizationOperation, Reply};
 
 // a over b, or 0 unless the size of b exceeds 1e-10.
@@ -14,11 +15,7 @@ use types::{PolarizationOperation, Reply};
 fn guarded_ratio(a: f32, b: f32) -> f32
     ensures { result ≡ guarded_ratio a b }
 {
-    if numeric::abs_f32(b) > 1e-10 {
-        a / b
-    } else {
-        0.0
-    }
+    if Binary::abs(b) > 1e-10 { a / b } else { 0.0 }
 }
 
 // The operation on one value of each list.
@@ -39,10 +36,8 @@ fn fill(operation: PolarizationOperation, a: &[f32], b: &[f32], out: &mut [f32])
     requires { (length out.old ≡ length a.now) × (length b.now ≡ length a.now) }
     ensures { out.new ≡ zip_with (operate operation) a.now b.now }
 {
-    let mut i = 0;
-    while i < out.len() {
-        out[i] = operate(operation, a[i], b[i]);
-        i += 1;
+    for (i, x) in a.iter().enumerate() {
+        out[i] = operate(operation, *x, b[i]);
     }
 }
 

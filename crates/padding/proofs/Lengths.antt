@@ -1,12 +1,11 @@
 -- What is known of sides and lengths where no number refuses them. Assumes nothing.
-use mathlib.Core.Path.{◌≡◌, ap, ◌∙◌}
+use mathlib.Core.Path.{◌≡◌}
 use mathlib.Core.Bool.{◌||◌}
-use mathlib.Core.List.{List, [], ◌∷◌}
+use mathlib.Core.List.{[], ◌∷◌}
 use Prim.Native.Nat.{ℕ, ◌*◌, ◌≤◌, max}
 use native.Mathlib.Nat.{mul-le-mul}
 use borrow.Author.Tests.{ltb-false}
 use lib.Dec.{ltb}
-use lib.ListN.{replicate}
 use Rattle.spec.specs.Answer.{first_of}
 use Rattle.spec.specs.Refusals.{sides_refused, unlike}
 use Rattle.lists.proofs.Replies.{none_first, none_rest, or_left, or_right, not_unlike}
@@ -32,6 +31,6 @@ module _ (r rows cols pixels square : ℕ)
   square_named =
       not_unlike square (max rows cols * max rows cols) (or_right (unlike pixels (rows * cols)) _ (none_first 1 r _ [] (none_rest 0 r (sides_refused rows cols) _ e h) h))
 
-  -- what the rows are placed with: narrow sides, the named lengths, and a square of zeros
-  pub accepted : (p : List ℕ) → p ≡ replicate square 0 → (rows ≤ 4096) × (cols ≤ 4096) × (pixels ≡ rows * cols) × (p ≡ replicate (max rows cols * max rows cols) 0)
-  accepted p z = (rows_narrow, cols_narrow, pixels_named, z ∙ ap (λ (n : ℕ). replicate n 0) square_named)
+  -- what the rows are placed with: narrow sides and the named lengths
+  pub accepted : (rows ≤ 4096) × (cols ≤ 4096) × (pixels ≡ rows * cols) × (square ≡ max rows cols * max rows cols)
+  accepted = (rows_narrow, cols_narrow, pixels_named, square_named)

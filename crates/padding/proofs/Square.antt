@@ -1,4 +1,4 @@
--- The square of a raster, row by row, over lists of numbers of any width. Assumes nothing.
+-- The square of a raster, row by row, over lists of any type. Assumes nothing.
 use mathlib.Core.Path.{◌≡◌, refl, sym, ap, ◌∙◌}
 use mathlib.Core.Bool.{Bool, true, false, cond, ◌&&◌}
 use mathlib.Core.List.{List}
@@ -54,23 +54,23 @@ module _ (rows cols : ℕ) where
   pub place_col : (r j : ℕ) → r < rows → j < cols → (start r + j) % side ≡ left + j
   place_col r j h l = ap (λ (k : ℕ). k % side) (omega arith) ∙ mul-add-mod_self_right (r + top) side (left + j) ∙ mod-eq_of_lt (omega arith)
 
-  module _ (xs : List ℕ) where
+  module _ {A : Type 0} (z : A) (xs : List A) where
     -- row y and column x of the square while the first r rows of the raster are in place
-    unfoldable pub cell_at : ℕ → ℕ → ℕ → ℕ
-    cell_at r y x = cond (leb top y && ltb y (top + r) && leb left x && ltb x (left + cols)) (get_or xs ((y - top) * cols + (x - left)) 0) 0
+    unfoldable pub cell_at : ℕ → ℕ → ℕ → A
+    cell_at r y x = cond (leb top y && ltb y (top + r) && leb left x && ltb x (left + cols)) (get_or xs ((y - top) * cols + (x - left)) z) z
 
     -- no row in place
-    none-at : (y x : ℕ) → Dec (y < top) → cell_at 0 y x ≡ 0
+    none-at : (y x : ℕ) → Dec (y < top) → cell_at 0 y x ≡ z
     unfolding cell_at
     none-at y x (yes h) = simp (lt-leb top y h)
     none-at y x (no h) = simp (le-ltb y (top + 0) (omega arith), and_false)
 
     -- beside the raster's columns
-    left_of : (r y x : ℕ) → x < left → cell_at r y x ≡ 0
+    left_of : (r y x : ℕ) → x < left → cell_at r y x ≡ z
     unfolding cell_at
     left_of r y x h = simp (lt-leb left x h, and_false)
 
-    right_of : (r y x : ℕ) → left + cols ≤ x → cell_at r y x ≡ 0
+    right_of : (r y x : ℕ) → left + cols ≤ x → cell_at r y x ≡ z
     unfolding cell_at
     right_of r y x h = simp (le-ltb x (left + cols) h, and_false)
 
@@ -81,11 +81,11 @@ module _ (rows cols : ℕ) where
     other_row r y x d (no h) = simp (le-ltb y (top + r) (omega arith), le-ltb y (top + (r + 1)) (omega arith))
 
     -- row r itself
-    new_row : (r j : ℕ) → j < cols → cell_at (r + 1) (r + top) (left + j) ≡ get_or xs (r * cols + j) 0
+    new_row : (r j : ℕ) → j < cols → cell_at (r + 1) (r + top) (left + j) ≡ get_or xs (r * cols + j) z
     unfolding cell_at
     new_row r j h =
         simp (le-leb top (r + top) (omega arith), lt-ltb (r + top) (top + (r + 1)) (omega arith), le-leb left (left + j) (omega arith), lt-ltb (left + j) (left + cols) (omega arith))
-        (ap (λ (m : ℕ). get_or xs (m * cols + (left + j - left)) 0) (omega arith) ∙ ap (λ (m : ℕ). get_or xs (r * cols + m) 0) (omega arith))
+        (ap (λ (m : ℕ). get_or xs (m * cols + (left + j - left)) z) (omega arith) ∙ ap (λ (m : ℕ). get_or xs (r * cols + m) z) (omega arith))
 
     unmoved : (r y x : ℕ) → (y ≡ r + top → left ≤ x → x < left + cols → ⊥) → Dec (x < left) → Dec (left + cols ≤ x) → cell_at (r + 1) y x ≡ cell_at r y x
     unmoved r y x d (yes h) q = left_of (r + 1) y x h ∙ sym (left_of r y x h)
@@ -93,34 +93,31 @@ module _ (rows cols : ℕ) where
     unmoved r y x d (no h) (no g) = other_row r y x (λ e. d e (omega arith) (omega arith)) (dec_lt y (top + r))
 
     -- the square with the first r rows in place
-    abbrev Placed : List ℕ → ℕ → Type 0
-    Placed p r = (length p ≡ side * side) × ((k : ℕ) → k < side * side → get_or p k 0 ≡ cell_at r (k / side) (k % side))
+    abbrev Placed : List A → ℕ → Type 0
+    Placed p r = (length p ≡ side * side) × ((k : ℕ) → k < side * side → get_or p k z ≡ cell_at r (k / side) (k % side))
 
     -- zeros: no row yet
-    zeros : Placed (replicate (side * side) 0) 0
-    zeros = (length-replicate (side * side) 0, λ k h. get_or-replicate (side * side) k 0 0 h ∙ sym (none-at (k / side) (k % side) (dec_lt (k / side) top)))
+    zeros : Placed (replicate (side * side) z) 0
+    zeros = (length-replicate (side * side) z, λ k h. get_or-replicate (side * side) k z z h ∙ sym (none-at (k / side) (k % side) (dec_lt (k / side) top)))
 
     -- what holds before row r is placed
-    pub record Before (p : List ℕ) (r : ℕ) : Type 0 where
+    pub record Before (p : List A) (r : ℕ) : Type 0 where
       pub within : r ≤ rows
       pub placed : Placed p r
 
-    pub none : (p : List ℕ) → p ≡ replicate (side * side) 0 → Before p 0
-    none p e = record { within = omega arith; placed = rw e zeros }
+    pub none : (p : List A) (n : ℕ) → n ≡ side * side → p ≡ replicate n z → Before p 0
+    none p n k e = record { within = omega arith; placed = rw (e, k) zeros }
 
-    pub same_length : (p q : List ℕ) (r : ℕ) → p ≡ replicate (side * side) 0 → Before q r → length q ≡ length p
-    same_length p q r e t = t.placed.0 ∙ sym (none p e).placed.0
-
-    module _ (r : ℕ) (h : r < rows) (p q : List ℕ) (t : Placed p r) (e : length q ≡ cols) (v : (j : ℕ) → j < cols → get_or q j 0 ≡ get_or xs (r * cols + j) 0) where
+    module _ (r : ℕ) (h : r < rows) (p q : List A) (t : Placed p r) (e : length q ≡ cols) (v : (j : ℕ) → j < cols → get_or q j z ≡ get_or xs (r * cols + j) z) where
       inside : start r + length q ≤ length p
       inside = omega (arith, room r h, t.0)
 
-      abbrev more : List ℕ
+      abbrev more : List A
       more = paste p (start r) q (length q)
 
-      in_row : (j : ℕ) → j < cols → get_or more (start r + j) 0 ≡ cell_at (r + 1) ((start r + j) / side) ((start r + j) % side)
+      in_row : (j : ℕ) → j < cols → get_or more (start r + j) z ≡ cell_at (r + 1) ((start r + j) / side) ((start r + j) % side)
       in_row j l =
-          paste_in 0 p (start r) q inside j (omega arith) ∙ v j l ∙ sym (new_row r j l)
+          paste_in z p (start r) q inside j (omega arith) ∙ v j l ∙ sym (new_row r j l)
           ∙ ap (λ (y : ℕ). cell_at (r + 1) y (left + j)) (sym (place_row r j h l)) ∙ ap (λ (x : ℕ). cell_at (r + 1) ((start r + j) / side) x) (sym (place_col r j h l))
 
       elsewhere : (k : ℕ) → k < side * side → (start r ≤ k → k < start r + cols → ⊥) → cell_at r (k / side) (k % side) ≡ cell_at (r + 1) (k / side) (k % side)
@@ -129,9 +126,9 @@ module _ (rows cols : ℕ) where
           (λ y a b. let f : k / side * side ≡ (r + top) * side = ap (λ (m : ℕ). m * side) y in let g = div-add-mod' k side in d (omega arith) (omega arith))
           (dec_lt (k % side) left) (dec_le (left + cols) (k % side)))
 
-      cell_of_lem : (k : ℕ) → k < side * side → Dec (k < start r) → Dec (start r + cols ≤ k) → get_or more k 0 ≡ cell_at (r + 1) (k / side) (k % side)
-      cell_of_lem k l (yes a) b = paste_before 0 p (start r) q inside k a ∙ t.1 k l ∙ elsewhere k l (λ c d. omega arith)
-      cell_of_lem k l (no a) (yes b) = paste_after 0 p (start r) q inside k (omega arith) ∙ t.1 k l ∙ elsewhere k l (λ c d. omega arith)
+      cell_of_lem : (k : ℕ) → k < side * side → Dec (k < start r) → Dec (start r + cols ≤ k) → get_or more k z ≡ cell_at (r + 1) (k / side) (k % side)
+      cell_of_lem k l (yes a) b = paste_before z p (start r) q inside k a ∙ t.1 k l ∙ elsewhere k l (λ c d. omega arith)
+      cell_of_lem k l (no a) (yes b) = paste_after z p (start r) q inside k (omega arith) ∙ t.1 k l ∙ elsewhere k l (λ c d. omega arith)
       cell_of_lem k l (no a) (no b) =
           let j : ℕ = k - start r in
           let i : start r + j ≡ k = omega arith in
@@ -144,30 +141,30 @@ module _ (rows cols : ℕ) where
       )
 
     -- row r of the raster, as a part of its list
-    abbrev pub row_of : ℕ → List ℕ
+    abbrev pub row_of : ℕ → List A
     row_of r = take (r * cols + cols - r * cols) (drop (r * cols) xs)
 
     module _ (whole : length xs ≡ rows * cols) (r : ℕ) (h : r < rows) where
       row_length : length (row_of r) ≡ cols
       row_length = simp (length-take, length-drop) (omega (arith, row_room r h, whole))
 
-      row_at_lem : (j : ℕ) → j < cols → get_or (row_of r) j 0 ≡ get_or xs (r * cols + j) 0
-      row_at_lem j l = get_or-take (r * cols + cols - r * cols) (drop (r * cols) xs) j 0 (omega arith) ∙ get_or-drop (r * cols) xs j 0
+      row_at_lem : (j : ℕ) → j < cols → get_or (row_of r) j z ≡ get_or xs (r * cols + j) z
+      row_at_lem j l = get_or-take (r * cols + cols - r * cols) (drop (r * cols) xs) j z (omega arith) ∙ get_or-drop (r * cols) xs j z
 
       -- a row fits, and is one row more
-      module _ (at : ℕ) (p : List ℕ) (e : at ≡ start r) (t : Before p r) where
+      module _ (at : ℕ) (p : List A) (e : at ≡ start r) (t : Before p r) where
         pub fits : at + length (row_of r) ≤ length p
         fits = omega (arith, row_length, room r h, t.placed.0)
 
-        pub next : (new : List ℕ) → new ≡ paste p at (row_of r) (length (row_of r)) → Before new (r + 1)
+        pub next : (new : List A) → new ≡ paste p at (row_of r) (length (row_of r)) → Before new (r + 1)
         next new v = record { within = omega arith; placed = rw (v, e) (step r h p (row_of r) t.placed row_length row_at_lem) }
 
     -- all rows
-    whole_square : (p : List ℕ) → Placed p rows → p ≡ padded rows cols xs
+    whole_square : (p : List A) → Placed p rows → p ≡ padded z rows cols xs
     unfolding padded pad_cell cell_at
     whole_square p t =
-        ext_get_or 0 p (padded rows cols xs) (t.0 ∙ sym (places-length _ 0 (side * side)))
-        (λ k l. let g : k < side * side = omega arith in t.1 k g ∙ sym (places-at _ 0 (side * side) k g))
+        ext_get_or z p (padded z rows cols xs) (t.0 ∙ sym (places-length _ z (side * side)))
+        (λ k l. let g : k < side * side = omega arith in t.1 k g ∙ sym (places-at _ z (side * side) k g))
 
-    pub finish : (p : List ℕ) (r : ℕ) → Before p r → rows ≤ r → p ≡ padded rows cols xs
+    pub finish : (p : List A) (r : ℕ) → Before p r → rows ≤ r → p ≡ padded z rows cols xs
     finish p r t h = let e : r ≡ rows = omega (arith, t.within) in whole_square p (rw e at t.placed)

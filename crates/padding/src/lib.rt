@@ -1,5 +1,5 @@
 #![tactic(auto)]
-// `add_padding_to_square` of padding.rs: a raster put in the middle of a square of zeros, at 8 and at 16 bits.
+// `add_padding_to_square` of padding.rs: a raster put in the middle of a square of zeros, at 8 and at 16 bits and at any other type.
 ghost use Rattle.std.specs.Prelude.{◌≡◌, ◌||◌, [], ◌∷◌, ◌+◌, ◌*◌, ◌≤◌, ◌<◌, max, length, replicate};
 ghost use Rattle.std.proofs.Math.Seq.{paste};
 ghost use Rattle.spec.specs.Answer.{first_of, number, reply_number, after};
@@ -38,6 +38,7 @@ fn refusal(rows: usize, cols: usize, pixels: usize, padded: usize) -> u8
 }
 
 // The place in the square at which a row of the raster starts.
+#[tactic(auto, using(crate::proofs::Lengths::product))]
 fn row_start(rows: usize, cols: usize, row: usize) -> usize
     requires { (rows ≤ 4096) × (cols ≤ 4096) × (row < rows) }
     ensures { result ≡ row_start rows cols row }
@@ -48,92 +49,52 @@ fn row_start(rows: usize, cols: usize, row: usize) -> usize
     (row + pad_rows) * max_dim + pad_cols
 }
 
+// The zero over the whole square: `fill` would ask that a clone cannot fail, which is not known of each `T`.
+fn clear<T: Copy>(zero: T, padded: &mut [T])
+    ensures { padded.new ≡ replicate (length padded.old) zero }
+{
+    for cell in padded.iter_mut() {
+        *cell = zero;
+    }
+}
+
 // One row into its place, `at` and on.
-fn copy_row_u8(row: &[u8], padded: &mut [u8], at: usize)
+fn copy_row<T: Copy>(row: &[T], padded: &mut [T], at: usize)
     requires { at + length row.now ≤ length padded.old }
     ensures { padded.new ≡ paste padded.old at row.now (length row.now) }
 {
-    let mut i = 0;
-    while i < row.len() {
-        padded[at + i] = row[i];
-        i += 1;
-    }
+    padded[at..at + row.len()].copy_from_slice(row);
 }
 
-// The rows, one after the other, into a square of zeros.
-fn place_rows_u8(rows: usize, cols: usize, u8_data: &[u8], padded: &mut [u8])
-    requires { (rows ≤ 4096) × (cols ≤ 4096) × (length u8_data.now ≡ rows * cols) × (padded.old ≡ replicate (max rows cols * max rows cols) 0) }
-    ensures { padded.new ≡ Padding.padded rows cols u8_data.now }
+// The rows, one after the other, over zeros.
+#[tactic(auto, using(crate::proofs::Square::row_short))]
+fn place_rows<T: Copy>(zero: T, rows: usize, cols: usize, pixels: &[T], padded: &mut [T])
+    requires { (rows ≤ 4096) × (cols ≤ 4096) × (length pixels.now ≡ rows * cols) × (length padded.old ≡ max rows cols * max rows cols) }
+    ensures { padded.new ≡ Padding.padded zero rows cols pixels.now }
 {
-    let mut row = 0;
-    while row < rows {
+    clear(zero, padded);
+    for row in 0..rows {
         let src_offset = row * cols;
         let dst_offset = row_start(rows, cols, row);
-        copy_row_u8(&u8_data[src_offset..src_offset + cols], padded, dst_offset);
-        row += 1;
+        copy_row(&pixels[src_offset..src_offset + cols], padded, dst_offset);
     }
 }
 
-// The raster in the middle of a square.
-pub fn add_padding_to_square_u8(
+// The raster in the middle of a square of zeros: `zero` is that of its type.
+pub fn add_padding_to_square<T: Copy>(
+    zero: T,
     rows: usize,
     cols: usize,
-    u8_data: &[u8],
-    padded: &mut [u8],
+    pixels: &[T],
+    padded: &mut [T],
 ) -> Reply
-    ensures reply { reply_number result ≡ number (Padding.add_padding_to_square rows cols u8_data.now (length padded.old)) }
-    ensures square { padded.new ≡ after (λ l. l) (Padding.add_padding_to_square rows cols u8_data.now (length padded.old)) padded.old }
+    ensures reply { reply_number result ≡ number (Padding.add_padding_to_square zero rows cols pixels.now (length padded.old)) }
+    ensures square { padded.new ≡ after (λ l. l) (Padding.add_padding_to_square zero rows cols pixels.now (length padded.old)) padded.old }
 {
-    let refused = refusal(rows, cols, u8_data.len(), padded.len());
+    let refused = refusal(rows, cols, pixels.len(), padded.len());
     if refused > 0 {
         return Reply::Refused(refused);
     }
-    lists::clear_u8(padded);
-    place_rows_u8(rows, cols, u8_data, padded);
-    Reply::Done
-}
-
-// One row into its place, `at` and on, at 16 bits.
-fn copy_row_u16(row: &[u16], padded: &mut [u16], at: usize)
-    requires { at + length row.now ≤ length padded.old }
-    ensures { padded.new ≡ paste padded.old at row.now (length row.now) }
-{
-    let mut i = 0;
-    while i < row.len() {
-        padded[at + i] = row[i];
-        i += 1;
-    }
-}
-
-// The rows, one after the other, into a square of zeros, at 16 bits.
-fn place_rows_u16(rows: usize, cols: usize, u16_data: &[u16], padded: &mut [u16])
-    requires { (rows ≤ 4096) × (cols ≤ 4096) × (length u16_data.now ≡ rows * cols) × (padded.old ≡ replicate (max rows cols * max rows cols) 0) }
-    ensures { padded.new ≡ Padding.padded rows cols u16_data.now }
-{
-    let mut row = 0;
-    while row < rows {
-        let src_offset = row * cols;
-        let dst_offset = row_start(rows, cols, row);
-        copy_row_u16(&u16_data[src_offset..src_offset + cols], padded, dst_offset);
-        row += 1;
-    }
-}
-
-// The raster in the middle of a square, at 16 bits.
-pub fn add_padding_to_square_u16(
-    rows: usize,
-    cols: usize,
-    u16_data: &[u16],
-    padded: &mut [u16],
-) -> Reply
-    ensures reply { reply_number result ≡ number (Padding.add_padding_to_square rows cols u16_data.now (length padded.old)) }
-    ensures square { padded.new ≡ after (λ l. l) (Padding.add_padding_to_square rows cols u16_data.now (length padded.old)) padded.old }
-{
-    let refused = refusal(rows, cols, u16_data.len(), padded.len());
-    if refused > 0 {
-        return Reply::Refused(refused);
-    }
-    lists::clear_u16(padded);
-    place_rows_u16(rows, cols, u16_data, padded);
+    place_rows(zero, rows, cols, pixels, padded);
     Reply::Done
 }

@@ -44,10 +44,10 @@ fn tiled_greys_u8(
         gamma,
     } = window
     else {
-        lists::clear_u8(out);
+        out.fill(0);
         return;
     };
-    clahe::clahe_values_u8(
+    clahe::clahe_values(
         db,
         valid_mask,
         sides,
@@ -83,10 +83,10 @@ fn tiled_values_u16(
         gamma,
     } = window
     else {
-        lists::clear_u16(out);
+        out.fill(0);
         return;
     };
-    clahe::clahe_values_u16(
+    clahe::clahe_values(
         db,
         valid_mask,
         sides,

@@ -8,10 +8,10 @@ use super::replies;
 // At 8 bits.
 #[unsafe(no_mangle)]
 pub extern "C" fn quicklook_pad_u8(rows: usize, cols: usize, data: &[u8], padded: &mut [u8]) -> u8
-    ensures reply { result ≡ number (add_padding_to_square rows cols «data».now (length padded.old)) }
-    ensures square { padded.new ≡ after (λ l. l) (add_padding_to_square rows cols «data».now (length padded.old)) padded.old }
+    ensures reply { result ≡ number (add_padding_to_square 0 rows cols «data».now (length padded.old)) }
+    ensures square { padded.new ≡ after (λ l. l) (add_padding_to_square 0 rows cols «data».now (length padded.old)) padded.old }
 {
-    replies::reply_number(padding::add_padding_to_square_u8(rows, cols, data, padded))
+    replies::reply_number(padding::add_padding_to_square(0_u8, rows, cols, data, padded))
 }
 
 // At 16 bits.
@@ -22,8 +22,8 @@ pub extern "C" fn quicklook_pad_u16(
     data: &[u16],
     padded: &mut [u16],
 ) -> u8
-    ensures reply { result ≡ number (add_padding_to_square rows cols «data».now (length padded.old)) }
-    ensures square { padded.new ≡ after (λ l. l) (add_padding_to_square rows cols «data».now (length padded.old)) padded.old }
+    ensures reply { result ≡ number (add_padding_to_square 0 rows cols «data».now (length padded.old)) }
+    ensures square { padded.new ≡ after (λ l. l) (add_padding_to_square 0 rows cols «data».now (length padded.old)) padded.old }
 {
-    replies::reply_number(padding::add_padding_to_square_u16(rows, cols, data, padded))
+    replies::reply_number(padding::add_padding_to_square(0_u16, rows, cols, data, padded))
 }

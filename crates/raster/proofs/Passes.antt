@@ -2,14 +2,12 @@
 use mathlib.Core.Path.{◌≡◌, refl, sym, ap, ◌∙◌}
 use mathlib.Core.Bool.{Bool, true, false, ◌||◌, or_assoc, or-false}
 use mathlib.Core.List.{List, [], ◌∷◌}
-use Prim.Native.Nat.{ℕ, suc, ◌+◌, ◌≤◌, ◌<◌, max}
+use Prim.Native.Nat.{ℕ, max}
 use native.Mathlib.Nat.{max-le, le-max_left, le-max_right}
-use native.Mathlib.Numerals.{add-one}
 use native.Mathlib.Omega.{arith}
 use borrow.Author.Tests.{lt-ltb, le-ltb, ltb-true, ltb-false}
 use lib.Dec.{ltb}
-use lib.ListN.{length, get_or, drop}
-use lib.Seq.{drop-cons, drop-length}
+use Rattle.std.specs.List.{fold}
 use Rattle.spec.specs.Lists.{any, highest}
 
 -- ---- any
@@ -29,14 +27,10 @@ module _ {A : Type 0} (f : A → Bool) where
 
 -- ---- the greatest
 
-module _ (xs : List ℕ) (m i : ℕ) where
-  pub highest_end : length xs ≤ i → i ≤ length xs → highest m (drop i xs) ≡ m
-  unfolding highest
-  highest_end a b = let e : i ≡ length xs = omega arith in rw (e, drop-length)
-
-  pub highest_next : (k : ℕ) → i < length xs → max m (get_or xs i 0) ≡ k → highest m (drop i xs) ≡ highest k (drop (i + 1) xs)
-  unfolding highest
-  highest_next k h e = rw (add-one i, drop-cons xs i 0) (ap (λ (k : ℕ). highest k (drop (suc i) xs)) e)
+pub fold-highest : (m : ℕ) (xs : List ℕ) → fold max m xs ≡ highest m xs
+unfolding highest
+fold-highest m [] = refl
+fold-highest m (x ∷ xs) = fold-highest (max m x) xs
 
 -- a number above n stands in the list exactly if the greatest is above n
 above : (n m x : ℕ) → ltb n (max m x) ≡ (ltb n m || ltb n x)

@@ -7,6 +7,7 @@ ghost use Rattle.spec.specs.Pixels.{on};
 ghost use Rattle.spec.specs.Refusals.{sides_refused, lengths_refused, marks_refused, decibel_refused};
 
 // 1: whether a side is above 4,096.
+#[tactic(auto, unfolding(spec::specs::Refusals::sides_refused))]
 pub fn sides_refused(rows: usize, cols: usize) -> bool
     ensures { result ≡ sides_refused rows cols }
 {
@@ -17,6 +18,7 @@ pub fn sides_refused(rows: usize, cols: usize) -> bool
 }
 
 // 2: whether dB or marks are not rows × cols long.
+#[tactic(auto, unfolding(spec::specs::Refusals::lengths_refused, spec::specs::Refusals::unlike))]
 pub fn lengths_refused(rows: usize, cols: usize, db: &[f64], valid_mask: &[u8]) -> bool
     requires { (rows ≤ 4096) × (cols ≤ 4096) }
     ensures { result ≡ lengths_refused rows cols valid_mask.now db.now }
@@ -28,20 +30,13 @@ pub fn lengths_refused(rows: usize, cols: usize, db: &[f64], valid_mask: &[u8]) 
     valid_mask.len() != n
 }
 
-// The greatest mark, 0 if there is none.
+// The greatest mark, 0 if there is none: a pass over all of them takes less time than one that may stop early.
 fn greatest_mark(valid_mask: &[u8]) -> u8
     ensures { result ≡ highest 0 valid_mask.now }
 {
-    let mut greatest: u8 = 0;
-    let mut i: usize = 0;
-    while i < valid_mask.len() {
-        let mark = valid_mask[i];
-        if mark > greatest {
-            greatest = mark;
-        }
-        i += 1;
-    }
-    greatest
+    valid_mask
+        .iter()
+        .fold(0, |greatest, mark| greatest.max(*mark))
 }
 
 // 3: whether a mark is neither 0 nor 1.
@@ -52,6 +47,7 @@ pub fn marks_refused(valid_mask: &[u8]) -> bool
 }
 
 // Whether a dB is NaN, infinite, below -1000 or above 1000.
+#[tactic(auto, unfolding(spec::specs::Refusals::decibel_refused))]
 pub fn decibel_refused(v: f64) -> bool
     ensures { result ≡ decibel_refused (on v) }
 {
@@ -64,6 +60,7 @@ pub fn decibel_refused(v: f64) -> bool
 }
 
 // The smallest of the numbers 1 to 3 that applies to a band, 0 if none does.
+#[tactic(auto, unfolding(spec::specs::Answer::first_of), using(crate::proofs::Bands::sides_accepted))]
 pub fn shape_refusal(rows: usize, cols: usize, db: &[f64], valid_mask: &[u8]) -> u8
     ensures { result ≡ first_of 1 (
         sides_refused rows cols ∷ lengths_refused rows cols valid_mask.now db.now ∷ marks_refused valid_mask.now ∷ []) }

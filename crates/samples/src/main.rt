@@ -1,553 +1,279 @@
 #![tactic(auto)]
 // Runs the samples of document 01, and one input for each number of its table of replies: a line for each, its words and what was found.
+use numeric::Binary;
+use std::fmt::{self, Display};
 use std::io;
-use types::{
-    AutoscaleStrategy, HistogramStats, Reply, StatisticsAnswer, SyntheticRgbMode, WindowAnswer,
-};
+use types::{AutoscaleStrategy, Reply, StatisticsAnswer, SyntheticRgbMode, WindowAnswer};
 
 // ---- printing
 
-fn text(rt: &impl Print, words: &str) -> io::Result<()> {
-    rt.print(words)
-}
+// Elements with commas between them.
+#[derive(Clone, Copy)]
+struct Listed<'a, T>(&'a [T]);
 
-fn number(rt: &impl Print, n: u64) -> io::Result<()> {
-    rt.print(n)
-}
-
-fn wide_u8(x: u8) -> u64 {
-    x as u64
-}
-
-fn wide_u16(x: u16) -> u64 {
-    x as u64
-}
-
-fn bytes(rt: &impl Print, list: &[u8]) -> io::Result<()> {
-    let n = list.len();
-    let mut i: usize = 0;
-    while i < n {
-        if i > 0 {
-            text(rt, ", ")?;
+impl<T: Display> Display for Listed<'_, T> {
+    fn fmt<W: fmt::Write>(&self, f: &mut fmt::Formatter<W>) -> fmt::Result {
+        for (i, x) in self.0.iter().enumerate() {
+            if i > 0 {
+                f.write_str(", ")?;
+            }
+            write!(f, "{x}")?;
         }
-        number(rt, wide_u8(list[i]))?;
-        i += 1;
+        Ok(())
     }
-    Ok(())
 }
 
-fn words(rt: &impl Print, list: &[u16]) -> io::Result<()> {
-    let n = list.len();
-    let mut i: usize = 0;
-    while i < n {
-        if i > 0 {
-            text(rt, ", ")?;
-        }
-        number(rt, wide_u16(list[i]))?;
-        i += 1;
-    }
-    Ok(())
-}
-
-// The digits after the point, at most twenty: exact for a few binary places.
-fn fraction(rt: &impl Print, x: f64) -> io::Result<()> {
-    let mut rest = x;
-    let mut turns: u64 = 20;
-    if rest > 0.0 {
-        text(rt, ".")?;
-    }
-    while turns > 0 {
-        if rest > 0.0 {
-            let digit = numeric::f64_as_u64(rest * 10.0);
-            number(rt, digit)?;
-            rest = rest * 10.0 - std::num::nearest_u64_to_f64(digit);
-        }
-        turns -= 1;
-    }
-    Ok(())
-}
-
-fn float(rt: &impl Print, x: f64) -> io::Result<()> {
-    if x < 0.0 {
-        text(rt, "-")?;
-    }
-    let size = numeric::abs_f64(x);
-    let whole = numeric::f64_as_u64(size);
-    number(rt, whole)?;
-    fraction(rt, size - std::num::nearest_u64_to_f64(whole))?;
-    Ok(())
-}
-
-fn refused(rt: &impl Print, k: u8) -> io::Result<()> {
-    text(rt, "refused ")?;
-    number(rt, wide_u8(k))?;
-    Ok(())
-}
-
-// What a call that lends bytes left, or its refusal.
-fn reply_bytes(rt: &impl Print, reply: Reply, out: &[u8]) -> io::Result<()> {
+// What a call left, or its refusal.
+fn reply(
+    rt: &impl Print,
+    line: impl Display + Drop,
+    reply: Reply,
+    left: impl Display + Drop,
+) -> io::Result<()> {
     match reply {
-        Reply::Done => bytes(rt, out)?,
-        Reply::Refused(k) => refused(rt, k)?,
+        Reply::Done => println!(rt; "{line}: {left}"),
+        Reply::Refused(k) => println!(rt; "{line}: refused {k}"),
     }
-    text(rt, "\n")?;
-    Ok(())
-}
-
-fn reply_words(rt: &impl Print, reply: Reply, out: &[u16]) -> io::Result<()> {
-    match reply {
-        Reply::Done => words(rt, out)?,
-        Reply::Refused(k) => refused(rt, k)?,
-    }
-    text(rt, "\n")?;
-    Ok(())
-}
-
-fn reply_only(rt: &impl Print, reply: Reply) -> io::Result<()> {
-    match reply {
-        Reply::Done => text(rt, "done")?,
-        Reply::Refused(k) => refused(rt, k)?,
-    }
-    text(rt, "\n")?;
-    Ok(())
 }
 
 // ---- statistics
 
-fn percentiles(rt: &impl Print, s: HistogramStats) -> io::Result<()> {
-    float(rt, s.median_db)?;
-    text(rt, ", ")?;
-    float(rt, s.p01)?;
-    text(rt, ", ")?;
-    float(rt, s.p02)?;
-    text(rt, ", ")?;
-    float(rt, s.p05)?;
-    text(rt, ", ")?;
-    float(rt, s.p10)?;
-    text(rt, ", ")?;
-    float(rt, s.p25)?;
-    text(rt, ", ")?;
-    float(rt, s.p75)?;
-    text(rt, ", ")?;
-    float(rt, s.p90)?;
-    text(rt, ", ")?;
-    float(rt, s.p95)?;
-    text(rt, ", ")?;
-    float(rt, s.p98)?;
-    text(rt, ", ")?;
-    float(rt, s.p99)?;
-    Ok(())
-}
-
-fn ten(rt: &impl Print) -> io::Result<()> {
-    text(rt, "dB 0, 10: ")?;
-    let db = [0.0, 10.0];
-    let valid_mask = [1u8, 1];
-    let answer = histogram::compute_histogram_stats(1, 2, &db, &valid_mask);
-    match answer {
+fn statistics(rt: &impl Print) -> io::Result<()> {
+    match histogram::compute_histogram_stats(1, 2, &[0.0, 10.0], &[1, 1]) {
         StatisticsAnswer::Statistics(s) => {
-            text(rt, "p05 = ")?;
-            float(rt, s.p05)?;
-            text(rt, ", p95 = ")?;
-            float(rt, s.p95)?;
+            println!(rt; "dB 0, 10: p05 = {}, p95 = {}", s.p05, s.p95)?;
         }
-        StatisticsAnswer::Refused(k) => refused(rt, k)?,
+        StatisticsAnswer::Refused(k) => println!(rt; "dB 0, 10: refused {k}")?,
     }
-    text(rt, "\n")?;
-    Ok(())
-}
-
-fn one(rt: &impl Print) -> io::Result<()> {
-    text(rt, "One pixel -12.5, all percentiles: ")?;
-    let db = [-12.5];
-    let valid_mask = [1u8];
-    let answer = histogram::compute_histogram_stats(1, 1, &db, &valid_mask);
-    match answer {
-        StatisticsAnswer::Statistics(s) => percentiles(rt, s)?,
-        StatisticsAnswer::Refused(k) => refused(rt, k)?,
+    match histogram::compute_histogram_stats(1, 1, &[-12.5], &[1]) {
+        StatisticsAnswer::Statistics(s) => {
+            let all = [
+                s.median_db,
+                s.p01,
+                s.p02,
+                s.p05,
+                s.p10,
+                s.p25,
+                s.p75,
+                s.p90,
+                s.p95,
+                s.p98,
+                s.p99,
+            ];
+            println!(rt; "One pixel -12.5, all percentiles: {}", Listed(&all))
+        }
+        StatisticsAnswer::Refused(k) => {
+            println!(rt; "One pixel -12.5, all percentiles: refused {k}")
+        }
     }
-    text(rt, "\n")?;
-    Ok(())
-}
-
-// ---- windows
-
-fn gamma_of(rt: &impl Print, x: f64) -> io::Result<()> {
-    if x == 0.9 {
-        text(rt, "gamma 0.9")?;
-    } else if x == 1.0 {
-        text(rt, "gamma 1.0")?;
-    } else if x == 1.1 {
-        text(rt, "gamma 1.1")?;
-    } else {
-        text(rt, "another gamma")?;
-    }
-    Ok(())
-}
-
-fn answered(rt: &impl Print, answer: WindowAnswer) -> io::Result<()> {
-    match answer {
-        WindowAnswer::Window {
-            low,
-            high,
-            range,
-            gamma,
-        } => gamma_of(rt, gamma)?,
-        WindowAnswer::Blank => text(rt, "blank")?,
-        WindowAnswer::Refused(k) => refused(rt, k)?,
-    }
-    text(rt, "\n")?;
-    Ok(())
-}
-
-fn standard(rt: &impl Print, line: &str, high: f64) -> io::Result<()> {
-    text(rt, line)?;
-    let db = [0.0, high];
-    let valid_mask = [1u8, 1];
-    answered(
-        rt,
-        autoscale::autoscale_window(AutoscaleStrategy::Standard, 1, 2, &db, &valid_mask),
-    )?;
-    Ok(())
-}
-
-fn blank(rt: &impl Print) -> io::Result<()> {
-    text(rt, "Window without a valid pixel: ")?;
-    let db = [0.0, 2000.0];
-    let valid_mask = [0u8, 0];
-    answered(
-        rt,
-        autoscale::autoscale_window(AutoscaleStrategy::Standard, 1, 2, &db, &valid_mask),
-    )?;
-    Ok(())
 }
 
 // ---- grey
 
-// One row of two valid pixels, 0 and v, at 8 bits.
-fn grey_u8(rt: &impl Print, line: &str, strategy: AutoscaleStrategy, v: f64) -> io::Result<()> {
-    text(rt, line)?;
-    let db = [0.0, v];
-    let valid_mask = [1u8, 1];
-    let mut out = [165u8; 2];
-    let mut work = [0.0; 1];
-    let reply = pipeline::autoscale_db_image_to_u8(
-        1,
-        2,
-        strategy,
-        &db,
-        &valid_mask,
-        &mut out,
-        &mut work,
-    );
-    reply_bytes(rt, reply, &out)?;
-    Ok(())
+// A row of valid pixels in grey, by the call of one format, over what was in the list before.
+fn grey<T, F, const N: usize>(
+    rt: &impl Print,
+    line: &str,
+    call: F,
+    strategy: AutoscaleStrategy,
+    db: [f64; N],
+    mut out: [T; N],
+) -> io::Result<()>
+where
+    T: Display + Copy,
+    F: FnOnce(usize, usize, AutoscaleStrategy, &[f64], &[u8], &mut [T], &mut [f64]) -> Reply,
+    requires { F.IsAlwaysCallable call }
+{
+    let answer = call(1, N, strategy, &db, &[1; N], &mut out, &mut [0.0; 16384]);
+    reply(rt, line, answer, Listed(&out))
 }
 
-fn grey_u16(rt: &impl Print, line: &str, strategy: AutoscaleStrategy, v: f64) -> io::Result<()> {
-    text(rt, line)?;
-    let db = [0.0, v];
-    let valid_mask = [1u8, 1];
-    let mut out = [0xa5a5u16; 2];
-    let mut work = [0.0; 1];
-    let reply = pipeline::autoscale_db_image_to_u16(
-        1,
-        2,
-        strategy,
-        &db,
-        &valid_mask,
-        &mut out,
-        &mut work,
-    );
-    reply_words(rt, reply, &out)?;
-    Ok(())
-}
-
-fn one_grey(rt: &impl Print) -> io::Result<()> {
-    text(rt, "One pixel -12.5, Default, U8 grey: ")?;
-    let db = [-12.5];
-    let valid_mask = [1u8];
-    let mut out = [165u8; 1];
-    let mut work = [0.0; 1];
-    let reply = pipeline::autoscale_db_image_to_u8(
-        1,
-        1,
+fn greys(rt: &impl Print) -> io::Result<()> {
+    // The values 0 and high at 8 bits.
+    let u8_grey = |line: &str, strategy: AutoscaleStrategy, high: f64| {
+        let call = pipeline::autoscale_db_image_to_u8;
+        grey(rt, line, call, strategy, [0.0, high], [0xa5; 2])
+    };
+    u8_grey(
+        "dB 0, 10, Default, U8 grey",
         AutoscaleStrategy::Default,
-        &db,
-        &valid_mask,
-        &mut out,
-        &mut work,
-    );
-    reply_bytes(rt, reply, &out)?;
-    Ok(())
-}
+        10.0,
+    )?;
+    grey(
+        rt,
+        "0, 0.5, Default, U16 grey",
+        pipeline::autoscale_db_image_to_u16,
+        AutoscaleStrategy::Default,
+        [0.0, 0.5],
+        [0xa5a5; 2],
+    )?;
+    u8_grey("0, 0.5, Default, U8 grey", AutoscaleStrategy::Default, 0.5)?;
+    grey(
+        rt,
+        "One pixel -12.5, Default, U8 grey",
+        pipeline::autoscale_db_image_to_u8,
+        AutoscaleStrategy::Default,
+        [-12.5],
+        [0xa5; 1],
+    )?;
 
-// Done or refused at 16 bits, whatever the greys.
-fn standard_grey(rt: &impl Print, line: &str, v: f64) -> io::Result<()> {
-    text(rt, line)?;
-    let db = [0.0, v];
-    let valid_mask = [1u8, 1];
-    let mut out = [42405u16; 2];
-    let mut work = [0.0; 1];
-    let reply = pipeline::autoscale_db_image_to_u16(
-        1,
-        2,
+    // Done or refused at 16 bits, whatever the greys.
+    for high in [14.0, 15.0, 40.0, 41.0] {
+        let answer = pipeline::autoscale_db_image_to_u16(
+            1,
+            2,
+            AutoscaleStrategy::Standard,
+            &[0.0, high],
+            &[1, 1],
+            &mut [0xa5a5; 2],
+            &mut [0.0],
+        );
+        reply(rt, format_args!("Standard, 0, {high}, U16"), answer, "done")?;
+    }
+    u8_grey(
+        "Standard, 0, 14, U8 grey",
         AutoscaleStrategy::Standard,
-        &db,
-        &valid_mask,
-        &mut out,
-        &mut work,
-    );
-    reply_only(rt, reply)?;
-    Ok(())
+        14.0,
+    )?;
+    u8_grey(
+        "Standard, 0, 41, U8 grey",
+        AutoscaleStrategy::Standard,
+        41.0,
+    )?;
+    u8_grey("Clahe on one row", AutoscaleStrategy::Clahe, 1.0)
 }
 
-// A Clahe grey call on one row, with room for its work.
-fn clahe_grey(rt: &impl Print) -> io::Result<()> {
-    text(rt, "Clahe on one row: ")?;
-    let db = [0.0, 1.0];
-    let valid_mask = [1u8, 1];
-    let mut out = [165u8; 2];
-    let mut work = [0.0; 16384];
-    let reply = pipeline::autoscale_db_image_to_u8(
-        1,
+// ---- windows
+
+// The window of a row of pixels, of which the call is told how many there are.
+fn window(
+    rt: &impl Print,
+    line: impl Display + Drop,
+    strategy: AutoscaleStrategy,
+    cols: usize,
+    db: &[f64],
+    valid_mask: &[u8],
+) -> io::Result<()> {
+    match autoscale::autoscale_window(strategy, 1, cols, db, valid_mask) {
+        WindowAnswer::Window { gamma, .. } => println!(rt; "{line}: gamma {gamma:?}"),
+        WindowAnswer::Blank => println!(rt; "{line}: blank"),
+        WindowAnswer::Refused(k) => println!(rt; "{line}: refused {k}"),
+    }
+}
+
+fn windows(rt: &impl Print) -> io::Result<()> {
+    let strategy = AutoscaleStrategy::Standard;
+    for high in [14.0, 15.0, 40.0, 41.0] {
+        let line = format_args!("Window of Standard, 0, {high}");
+        window(rt, line, strategy, 2, &[0.0, high], &[1, 1])?;
+    }
+    window(
+        rt,
+        "Window without a valid pixel",
+        strategy,
         2,
-        AutoscaleStrategy::Clahe,
-        &db,
-        &valid_mask,
-        &mut out,
-        &mut work,
-    );
-    reply_only(rt, reply)?;
-    Ok(())
-}
-
-// ---- the stretch by itself
-
-fn stretched(rt: &impl Print, line: &str, a: u16, b: u16, c: u16) -> io::Result<()> {
-    text(rt, line)?;
-    let data = [a, b, c];
-    let mut out = [165u8; 3];
-    let reply = stretch::scale_u16_to_u8(&data, &mut out);
-    reply_bytes(rt, reply, &out)?;
-    Ok(())
+        &[0.0, 2000.0],
+        &[0, 0],
+    )
 }
 
 // ---- colours
 
+// The colours of two bands, over what was in the list before.
 fn colour(
     rt: &impl Print,
-    line: &str,
+    line: impl Display + Drop,
     strategy: AutoscaleStrategy,
-    v1: u8,
-    v2: u8,
+    band1: &[u8],
+    band2: &[u8],
+    out: &mut [u8],
 ) -> io::Result<()> {
-    text(rt, line)?;
-    let band1 = [v1];
-    let band2 = [v2];
-    let mut out = [165u8; 3];
-    let reply = synthetic_rgb::create_synthetic_rgb_by_mode_and_strategy(
+    let answer = synthetic_rgb::create_synthetic_rgb_by_mode_and_strategy(
         SyntheticRgbMode::Default,
         strategy,
-        &band1,
-        &band2,
-        &mut out,
+        band1,
+        band2,
+        out,
     );
-    reply_bytes(rt, reply, &out)?;
-    Ok(())
+    reply(rt, line, answer, Listed(out))
 }
 
-// Four pixels of 200 in both bands, coloured above f = 3.
-fn four(rt: &impl Print) -> io::Result<()> {
-    text(
+fn colours(rt: &impl Print) -> io::Result<()> {
+    for (name, strategy, v1, v2) in [
+        ("Default", AutoscaleStrategy::Default, 255u8, 255u8),
+        ("Default", AutoscaleStrategy::Default, 255, 1),
+        ("Default", AutoscaleStrategy::Default, 1, 1),
+        ("Default", AutoscaleStrategy::Default, 0, 255),
+        ("Suppressed, one pixel", AutoscaleStrategy::Tamed, 255, 255),
+        ("Suppressed, one pixel", AutoscaleStrategy::Tamed, 255, 3),
+        ("Suppressed, one pixel", AutoscaleStrategy::Clahe, 3, 255),
+        ("Suppressed, one pixel", AutoscaleStrategy::Clahe, 4, 4),
+    ] {
+        let line = format_args!("{name} ({v1},{v2})");
+        colour(rt, line, strategy, &[v1], &[v2], &mut [0xa5; 3])?;
+    }
+    colour(
         rt,
-        "Four pixels of 200 in both bands, colours above f = 3: ",
-    )?;
-    let band = [200u8; 4];
-    let mut out = [165u8; 12];
-    let mode = SyntheticRgbMode::Default;
-    let reply = synthetic_rgb::create_synthetic_rgb_by_mode_and_strategy(
-        mode,
+        "Four pixels of 200 in both bands, colours above f = 3",
         AutoscaleStrategy::Tamed,
-        &band,
-        &band,
-        &mut out,
-    );
-    reply_bytes(rt, reply, &out)?;
-    Ok(())
-}
-
-// Five of them, coloured above f = 40.
-fn five(rt: &impl Print) -> io::Result<()> {
-    text(
+        &[200; 4],
+        &[200; 4],
+        &mut [0xa5; 12],
+    )?;
+    colour(
         rt,
-        "Five pixels of 200 in both bands, colours above f = 40: ",
-    )?;
-    let band = [200u8; 5];
-    let mut out = [165u8; 15];
-    let mode = SyntheticRgbMode::Default;
-    let reply = synthetic_rgb::create_synthetic_rgb_by_mode_and_strategy(
-        mode,
+        "Five pixels of 200 in both bands, colours above f = 40",
         AutoscaleStrategy::Tamed,
-        &band,
-        &band,
-        &mut out,
-    );
-    reply_bytes(rt, reply, &out)?;
-    Ok(())
+        &[200; 5],
+        &[200; 5],
+        &mut [0xa5; 15],
+    )
 }
 
-// ---- padding and marks
+// ---- the stretch by itself, padding and marks
 
-fn pad(rt: &impl Print) -> io::Result<()> {
-    text(rt, "Pad 1 row 1, 2: ")?;
-    let data = [1u8, 2];
-    let mut out = [165u8; 4];
-    let reply = padding::add_padding_to_square_u8(1, 2, &data, &mut out);
-    reply_bytes(rt, reply, &out)?;
-    Ok(())
-}
-
-fn mark(rt: &impl Print, line: &str, bits: u32) -> io::Result<()> {
-    text(rt, line)?;
-    let data = [numeric::f32_from_bits(bits)];
-    let mut out = [165u8; 1];
-    let reply = marks::process_scalar_data_mask(&data, &mut out);
-    reply_bytes(rt, reply, &out)?;
+fn beside(rt: &impl Print) -> io::Result<()> {
+    for row in [[0, 1, 2], [7, 7, 7]] {
+        let mut out = [0xa5; 3];
+        let answer = stretch::scale_u16_to_u8(&row, &mut out);
+        reply(
+            rt,
+            format_args!("Stretch {}", Listed(&row)),
+            answer,
+            Listed(&out),
+        )?;
+    }
+    let mut out = [0xa5; 4];
+    let answer = padding::add_padding_to_square(0, 1, 2, &[1, 2], &mut out);
+    reply(rt, "Pad 1 row 1, 2", answer, Listed(&out))?;
+    for bits in [0x3727c5ac, 0x3727c5ad] {
+        let mut out = [0xa5; 1];
+        let answer = marks::process_scalar_data_mask(&[f32::of_bits(bits)], &mut out);
+        reply(rt, format_args!("Mark of {bits:X}"), answer, Listed(&out))?;
+    }
     Ok(())
 }
 
 // ---- the table of replies
 
-// The window call on two pixels with the given side, mark and value.
-fn refusal(rt: &impl Print, line: &str, cols: usize, mark: u8, v: f64) -> io::Result<()> {
-    text(rt, line)?;
-    let db = [0.0, v];
-    let valid_mask = [1u8, mark];
-    answered(
-        rt,
-        autoscale::autoscale_window(AutoscaleStrategy::Default, 1, cols, &db, &valid_mask),
-    )?;
-    Ok(())
-}
-
-// ---- the samples
-
-fn statistics(rt: &impl Print) -> io::Result<()> {
-    ten(rt)?;
-    one(rt)?;
-    Ok(())
-}
-
-fn greys(rt: &impl Print) -> io::Result<()> {
-    grey_u8(
-        rt,
-        "dB 0, 10, Default, U8 grey: ",
-        AutoscaleStrategy::Default,
-        10.0,
-    )?;
-    grey_u16(
-        rt,
-        "0, 0.5, Default, U16 grey: ",
-        AutoscaleStrategy::Default,
-        0.5,
-    )?;
-    grey_u8(
-        rt,
-        "0, 0.5, Default, U8 grey: ",
-        AutoscaleStrategy::Default,
-        0.5,
-    )?;
-    one_grey(rt)?;
-    standard_grey(rt, "Standard, 0, 14, U16: ", 14.0)?;
-    standard_grey(rt, "Standard, 0, 15, U16: ", 15.0)?;
-    standard_grey(rt, "Standard, 0, 40, U16: ", 40.0)?;
-    standard_grey(rt, "Standard, 0, 41, U16: ", 41.0)?;
-    grey_u8(
-        rt,
-        "Standard, 0, 14, U8 grey: ",
-        AutoscaleStrategy::Standard,
-        14.0,
-    )?;
-    grey_u8(
-        rt,
-        "Standard, 0, 41, U8 grey: ",
-        AutoscaleStrategy::Standard,
-        41.0,
-    )?;
-    clahe_grey(rt)?;
-    Ok(())
-}
-
-fn windows(rt: &impl Print) -> io::Result<()> {
-    standard(rt, "Window of Standard, 0, 14: ", 14.0)?;
-    standard(rt, "Window of Standard, 0, 15: ", 15.0)?;
-    standard(rt, "Window of Standard, 0, 40: ", 40.0)?;
-    standard(rt, "Window of Standard, 0, 41: ", 41.0)?;
-    blank(rt)?;
-    Ok(())
-}
-
-fn colours(rt: &impl Print) -> io::Result<()> {
-    colour(
-        rt,
-        "Default (255,255): ",
-        AutoscaleStrategy::Default,
-        255,
-        255,
-    )?;
-    colour(rt, "Default (255,1): ", AutoscaleStrategy::Default, 255, 1)?;
-    colour(rt, "Default (1,1): ", AutoscaleStrategy::Default, 1, 1)?;
-    colour(rt, "Default (0,255): ", AutoscaleStrategy::Default, 0, 255)?;
-    colour(
-        rt,
-        "Suppressed, one pixel (255,255): ",
-        AutoscaleStrategy::Tamed,
-        255,
-        255,
-    )?;
-    colour(
-        rt,
-        "Suppressed, one pixel (255,3): ",
-        AutoscaleStrategy::Tamed,
-        255,
-        3,
-    )?;
-    colour(
-        rt,
-        "Suppressed, one pixel (3,255): ",
-        AutoscaleStrategy::Clahe,
-        3,
-        255,
-    )?;
-    colour(
-        rt,
-        "Suppressed, one pixel (4,4): ",
-        AutoscaleStrategy::Clahe,
-        4,
-        4,
-    )?;
-    four(rt)?;
-    five(rt)?;
-    Ok(())
-}
-
-fn beside(rt: &impl Print) -> io::Result<()> {
-    stretched(rt, "Stretch 0, 1, 2: ", 0, 1, 2)?;
-    stretched(rt, "Stretch 7, 7, 7: ", 7, 7, 7)?;
-    pad(rt)?;
-    mark(rt, "Mark of 3727C5AC: ", 0x3727c5ac)?;
-    mark(rt, "Mark of 3727C5AD: ", 0x3727c5ad)?;
-    Ok(())
-}
-
 fn replies(rt: &impl Print) -> io::Result<()> {
-    refusal(rt, "Columns 4,097 and a mark 2: ", 4097, 2, 0.0)?;
-    refusal(rt, "Two pixels for three: ", 3, 2, 0.0)?;
-    refusal(rt, "A mark 2 beside 1001 dB: ", 2, 2, 1001.0)?;
-    refusal(rt, "1001 dB: ", 2, 1, 1001.0)?;
-    refusal(rt, "1000 dB: ", 2, 1, 1000.0)?;
-    refusal(rt, "1001 dB under a mark 0: ", 2, 0, 1001.0)?;
+    for (line, cols, mark, v) in [
+        ("Columns 4,097 and a mark 2", 4097, 2, 0.0),
+        ("Two pixels for three", 3, 2, 0.0),
+        ("A mark 2 beside 1001 dB", 2, 2, 1001.0),
+        ("1001 dB", 2, 1, 1001.0),
+        ("1000 dB", 2, 1, 1000.0),
+        ("1001 dB under a mark 0", 2, 0, 1001.0),
+    ] {
+        window(
+            rt,
+            line,
+            AutoscaleStrategy::Default,
+            cols,
+            &[0.0, v],
+            &[1, mark],
+        )?;
+    }
     Ok(())
 }
 
@@ -557,6 +283,5 @@ fn main(rt: HostRuntime) -> io::Result<()> {
     windows(&rt)?;
     colours(&rt)?;
     beside(&rt)?;
-    replies(&rt)?;
-    Ok(())
+    replies(&rt)
 }

@@ -35,11 +35,11 @@ pub composition_6 : T (same (bytes (create_synthetic_rgb_by_mode_and_strategy En
 unfolding computing
 composition_6 = tt
 
-pub padding_7 : T (same (bytes (add_padding_to_square 2 5 (1000 ∷ 2000 ∷ 3000 ∷ 4000 ∷ 5000 ∷ 6000 ∷ 7000 ∷ 8000 ∷ 9000 ∷ 10000 ∷ []) 25)) (0 ∷ 0 ∷ 0 ∷ 0 ∷ 0 ∷ 0 ∷ 1000 ∷ 2000 ∷ 3000 ∷ 4000 ∷ 5000 ∷ 6000 ∷ 7000 ∷ 8000 ∷ 9000 ∷ 10000 ∷ 0 ∷ 0 ∷ 0 ∷ 0 ∷ 0 ∷ 0 ∷ 0 ∷ 0 ∷ 0 ∷ 0 ∷ []))
+pub padding_7 : T (same (bytes (add_padding_to_square 0 2 5 (1000 ∷ 2000 ∷ 3000 ∷ 4000 ∷ 5000 ∷ 6000 ∷ 7000 ∷ 8000 ∷ 9000 ∷ 10000 ∷ []) 25)) (0 ∷ 0 ∷ 0 ∷ 0 ∷ 0 ∷ 0 ∷ 1000 ∷ 2000 ∷ 3000 ∷ 4000 ∷ 5000 ∷ 6000 ∷ 7000 ∷ 8000 ∷ 9000 ∷ 10000 ∷ 0 ∷ 0 ∷ 0 ∷ 0 ∷ 0 ∷ 0 ∷ 0 ∷ 0 ∷ 0 ∷ 0 ∷ []))
 unfolding computing
 padding_7 = tt
 
-pub padding_8 : T (same (bytes (add_padding_to_square 4 1 (1000 ∷ 2000 ∷ 3000 ∷ 4000 ∷ []) 16)) (0 ∷ 0 ∷ 1000 ∷ 0 ∷ 0 ∷ 0 ∷ 2000 ∷ 0 ∷ 0 ∷ 0 ∷ 3000 ∷ 0 ∷ 0 ∷ 0 ∷ 4000 ∷ 0 ∷ 0 ∷ []))
+pub padding_8 : T (same (bytes (add_padding_to_square 0 4 1 (1000 ∷ 2000 ∷ 3000 ∷ 4000 ∷ []) 16)) (0 ∷ 0 ∷ 1000 ∷ 0 ∷ 0 ∷ 0 ∷ 2000 ∷ 0 ∷ 0 ∷ 0 ∷ 3000 ∷ 0 ∷ 0 ∷ 0 ∷ 4000 ∷ 0 ∷ 0 ∷ []))
 unfolding computing
 padding_8 = tt
 

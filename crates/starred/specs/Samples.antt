@@ -90,6 +90,6 @@ pub record Unstarred : Type 0 where
   pub four : floor_level (replicate 4 200) (replicate 4 200) ≡ 3
   pub five : floor_level (replicate 5 200) (replicate 5 200) ≡ 40
   -- "Pad 1 row 1, 2: 1, 2, 0, 0"
-  pub pad : add_padding_to_square 1 2 (1 ∷ 2 ∷ []) 4 ≡ done (1 ∷ 2 ∷ 0 ∷ 0 ∷ [])
+  pub pad : add_padding_to_square {A = ℕ} 0 1 2 (1 ∷ 2 ∷ []) 4 ≡ done (1 ∷ 2 ∷ 0 ∷ 0 ∷ [])
   -- "Marks: 3727C5AC gives 0, 3727C5AD gives 1"
   pub marks : process_scalar_data_mask (map (of_bits binary32) (0x3727_c5ac ∷ 0x3727_c5ad ∷ [])) 2 ≡ done (0 ∷ 1 ∷ [])

@@ -1,6 +1,6 @@
 -- The ends of a list, a turn at a time, and two maps that agree on a list's elements. Assumes nothing.
 use mathlib.Core.Path.{◌≡◌, refl, sym, ap, ◌∙◌}
-use mathlib.Core.List.{List, [], ◌∷◌, map}
+use mathlib.Core.List.{List, [], ◌∷◌, map, map-id}
 use Prim.Native.Nat.{ℕ, zero, suc, ◌+◌, ◌≤◌, ◌<◌, min, max, suc-le-suc, zero-le}
 use native.Mathlib.Nat.{le_trans, le_of_suc-le-suc, not-suc-le-zero}
 use native.Mathlib.Omega.{arith}
@@ -16,6 +16,10 @@ lowest_more m w xs i h e = rw (add-one) (sym (ap (lowest m) (drop-cons xs i 0 h)
 pub highest_more : (m w : ℕ) (xs : List ℕ) (i : ℕ) → i < length xs → highest m (drop i xs) ≡ w → highest (max m (get_or xs i 0)) (drop (i + 1) xs) ≡ w
 unfolding highest
 highest_more m w xs i h e = rw (add-one) (sym (ap (highest m) (drop-cons xs i 0 h)) ∙ e)
+
+-- a list whose values are their own levels
+pub of_levels : {lo hi : ℕ} (xs : List ℕ) → (lo ≡ lowest 65535 (map (λ x. x) xs)) × (hi ≡ highest 0 (map (λ x. x) xs)) → (lo ≡ lowest 65535 xs) × (hi ≡ highest 0 xs)
+of_levels xs e = (e.0 ∙ ap (lowest 65535) (map-id xs), e.1 ∙ ap (highest 0) (map-id xs))
 
 start_under : (m : ℕ) (xs : List ℕ) → m ≤ highest m xs
 unfolding highest

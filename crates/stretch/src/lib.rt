@@ -1,43 +1,46 @@
 #![tactic(auto)]
 // `scale_u16_to_u8`: values stretched to bytes between their least and their greatest, in f32, each step rounded once.
-ghost use Rattle.std.specs.Prelude.{◌≡◌, map, ◌+◌, ◌≤◌, min, max, length, get_or};
+ghost use Rattle.std.specs.Prelude.{◌≡◌, ℕ, map, ◌+◌, ◌≤◌, min, length, get_or};
 ghost use Rattle.spec.specs.Answer.{number, reply_number, after};
 ghost use Rattle.spec.specs.Floats.{round_as_u64};
 ghost use Rattle.spec.specs.Lists.{lowest, highest};
 ghost use Rattle.spec.specs.Stretch.{stretch_byte, scale_u16_to_u8};
 ghost use Rattle.stretch.specs.Tables.{Stretches};
 
+use numeric::Binary;
 use types::Reply;
 
 // z to the nearest whole number, half away from zero, held to 0..255.
 fn round_byte(z: f32) -> u8
     ensures { result ≡ min (round_as_u64 z) 255 }
 {
-    let n = numeric::round_f32_as_u64(z);
+    let n = z.round_as_u64();
+    // Kept: `n.min(255) as u8` takes a jump more for each pixel.
     if n < 255 { n as u8 } else { 255 }
 }
 
-// x between the ends lo and hi, as a byte: 0 unless lo is below hi.
-fn stretch_byte(x: u16, lo: u16, hi: u16) -> u8
-    ensures { result ≡ stretch_byte lo hi x }
-{
-    if lo < hi {
-        let scale = 255.0 / (hi as f32 - lo as f32);
-        return round_byte((x as f32 - lo as f32) * scale);
+// A value of at most 16 bits.
+pub trait Level: Copy {
+    ghost level: { Self → ℕ };
+
+    fn level(self) -> u16
+        ensures { result ≡ level self };
+}
+
+impl Level for u8 {
+    ghost level = { λ x. x };
+
+    fn level(self) -> u16 {
+        u16::from(self)
     }
-    0
 }
 
-fn min_u16(a: u16, b: u16) -> u16
-    ensures { result ≡ min a b }
-{
-    if b < a { b } else { a }
-}
+impl Level for u16 {
+    ghost level = { λ x. x };
 
-fn max_u16(a: u16, b: u16) -> u16
-    ensures { result ≡ max a b }
-{
-    if a < b { b } else { a }
+    fn level(self) -> u16 {
+        self
+    }
 }
 
 // The least and the greatest of a list.
@@ -47,61 +50,72 @@ pub struct Ends {
     pub hi: u16,
 }
 
-// 65535 and 0 of an empty list.
-fn ends_of(data: &[u16]) -> Ends
-    ensures { (result.lo ≡ lowest 65535 «data».now) × (result.hi ≡ highest 0 «data».now) }
-{
-    let mut lo = 65535;
-    let mut hi = 0;
-    let mut i = 0;
-    while i < data.len() {
-        let x = data[i];
-        lo = min_u16(lo, x);
-        hi = max_u16(hi, x);
-        i += 1;
+impl Ends {
+    // 65535 and 0 of an empty list.
+    pub fn of<T: Level>(values: &[T]) -> Ends
+        ensures { (result.lo ≡ lowest 65535 (map T.level values.now)) × (result.hi ≡ highest 0 (map T.level values.now)) }
+    {
+        let mut lo: u16 = 65535;
+        let mut hi: u16 = 0;
+        for value in values {
+            let x = value.level();
+            lo = lo.min(x);
+            hi = hi.max(x);
+        }
+        Ends { lo, hi }
     }
-    Ends { lo, hi }
+
+    // x between the ends, as a byte: 0 unless lo is below hi.
+    #[tactic(auto, unfolding(spec::specs::Stretch::stretch_byte))]
+    fn byte(self, x: u16) -> u8
+        ensures { result ≡ stretch_byte self.lo self.hi x }
+    {
+        if self.lo < self.hi {
+            let scale = 255.0 / (self.hi as f32 - self.lo as f32);
+            round_byte((x as f32 - self.lo as f32) * scale)
+        } else {
+            0
+        }
+    }
+
+    // Each value by itself.
+    fn stretch_each(self, data: &[u16], out: &mut [u8])
+        requires { length out.old ≡ length «data».now }
+        ensures { out.new ≡ map (stretch_byte self.lo self.hi) «data».now }
+    {
+        for (i, x) in data.iter().enumerate() {
+            out[i] = self.byte(*x);
+        }
+    }
+
+    // The stretched byte of each of the first n numbers.
+    fn fill_table<const N: usize>(self, n: usize, table: &mut [u8; N])
+        requires fact_1 { n ≤ 65536 }
+        requires fact_2 { n ≤ N }
+        ensures { Stretches self.lo self.hi n table.new }
+    {
+        for i in 0..n {
+            table[i] = self.byte(i as u16);
+        }
+    }
+
+    // A long list: each value up to hi, of which no other occurs, is stretched once.
+    fn stretch_by_table(self, data: &[u16], out: &mut [u8])
+        requires fact_1 { length out.old ≡ length «data».now }
+        requires fact_2 { self.hi ≡ highest 0 «data».now }
+        ensures { out.new ≡ map (stretch_byte self.lo self.hi) «data».now }
+    {
+        let mut table = [0u8; 65536];
+        self.fill_table(usize::from(self.hi) + 1, &mut table);
+        look_up(data, &table, out);
+    }
 }
 
 // Those of bytes.
 pub fn ends_of_bytes(bytes: &[u8]) -> Ends
     ensures { (result.lo ≡ lowest 65535 bytes.now) × (result.hi ≡ highest 0 bytes.now) }
 {
-    let mut lo: u16 = 65535;
-    let mut hi: u16 = 0;
-    let mut i = 0;
-    while i < bytes.len() {
-        let byte = bytes[i] as u16;
-        lo = min_u16(lo, byte);
-        hi = max_u16(hi, byte);
-        i += 1;
-    }
-    Ends { lo, hi }
-}
-
-// Each value by itself.
-fn stretch_each(data: &[u16], lo: u16, hi: u16, out: &mut [u8])
-    requires { length out.old ≡ length «data».now }
-    ensures { out.new ≡ map (stretch_byte lo hi) «data».now }
-{
-    let mut i = 0;
-    while i < out.len() {
-        out[i] = stretch_byte(data[i], lo, hi);
-        i += 1;
-    }
-}
-
-// The stretched byte of each of the first n numbers.
-fn fill_table(n: usize, lo: u16, hi: u16, table: &mut [u8])
-    requires fact_1 { n ≤ 65536 }
-    requires fact_2 { n ≤ length table.old }
-    ensures { Stretches lo hi n table.new }
-{
-    let mut i = 0;
-    while i < n {
-        table[i] = stretch_byte(i as u16, lo, hi);
-        i += 1;
-    }
+    Ends::of(bytes)
 }
 
 // Each value's entry.
@@ -109,30 +123,19 @@ fn look_up(data: &[u16], table: &[u8; 65536], out: &mut [u8])
     requires { length out.old ≡ length «data».now }
     ensures { out.new ≡ map (λ x. get_or table.now x 0) «data».now }
 {
-    let mut i = 0;
-    while i < out.len() {
-        let x = data[i] as usize;
-        out[i] = table[x];
-        i += 1;
+    for (i, x) in data.iter().enumerate() {
+        out[i] = table[usize::from(*x)];
     }
 }
 
-// The stretched byte of each value up to hi.
-fn fill_values(lo: u16, hi: u16, table: &mut [u8; 65536])
-    ensures { Stretches lo hi (hi + 1) table.new }
+// Each byte's entry, in place.
+// Kept: no plainer as one with `look_up`, which reads one list and writes another.
+fn look_up_bytes(bytes: &mut [u8], table: &[u8; 256])
+    ensures { bytes.new ≡ map (λ x. get_or table.now x 0) bytes.old }
 {
-    fill_table(hi as usize + 1, lo, hi, table);
-}
-
-// A long list: each value that may occur is stretched once.
-fn stretch_by_table(data: &[u16], lo: u16, hi: u16, out: &mut [u8])
-    requires fact_1 { length out.old ≡ length «data».now }
-    requires fact_2 { hi ≡ highest 0 «data».now }
-    ensures { out.new ≡ map (stretch_byte lo hi) «data».now }
-{
-    let mut table = [0u8; 65536];
-    fill_values(lo, hi, &mut table);
-    look_up(data, &table, out);
+    for byte in bytes.iter_mut() {
+        *byte = table[usize::from(*byte)];
+    }
 }
 
 // The stretch by itself: refused with 2 unless the lengths are equal and at most 16,777,216.
@@ -146,46 +149,23 @@ pub fn scale_u16_to_u8(data: &[u16], out: &mut [u8]) -> Reply
     if out.len() != data.len() {
         return Reply::Refused(2);
     }
-    let ends = ends_of(data);
-    let lo = ends.lo;
-    let hi = ends.hi;
+    let ends = Ends::of(data);
     if data.len() < 65536 {
-        stretch_each(data, lo, hi, out);
-        return Reply::Done;
+        ends.stretch_each(data, out);
+    } else {
+        ends.stretch_by_table(data, out);
     }
-    stretch_by_table(data, lo, hi, out);
     Reply::Done
-}
-
-// The stretched byte of each byte.
-fn fill_bytes(lo: u16, hi: u16, table: &mut [u8; 256])
-    ensures { Stretches lo hi 256 table.new }
-{
-    fill_table(256, lo, hi, table);
-}
-
-// Each byte's entry, in place.
-fn look_up_bytes(bytes: &mut [u8], table: &[u8; 256])
-    ensures { bytes.new ≡ map (λ x. get_or table.now x 0) bytes.old }
-{
-    let mut i = 0;
-    while i < bytes.len() {
-        let x = bytes[i] as usize;
-        bytes[i] = table[x];
-        i += 1;
-    }
 }
 
 // Bytes stretched in place between given ends. Between 0 and 255 nothing changes.
 pub fn stretch_bytes(bytes: &mut [u8], lo: u16, hi: u16)
     ensures { bytes.new ≡ map (stretch_byte lo hi) bytes.old }
 {
-    if lo == 0 {
-        if hi == 255 {
-            return;
-        }
+    if lo == 0 && hi == 255 {
+        return;
     }
     let mut table = [0u8; 256];
-    fill_bytes(lo, hi, &mut table);
+    Ends { lo, hi }.fill_table(256, &mut table);
     look_up_bytes(bytes, &table);
 }

@@ -14,7 +14,7 @@ use Rattle.colour_tables.specs.Tables.{Rank, Thresholds}
 use Rattle.colour_tables.proofs.Laws.{red_rises, red-above_rises, level-byte, green_positive, red-above-dark, green-above-dark}
 use Rattle.synthetic_rgb.specs.declared.Composition.{Composition}
 use Rattle.synthetic_rgb.specs.declared.Composition.TheVariants.{Plain, Suppressed}
-use Rattle.synthetic_rgb.specs.Palette.{red_of, green_of, epsilon, scale_of, is_dark, ratio_of, blue_of, colour_at, shown, Palette, Cells, Reached}
+use Rattle.synthetic_rgb.specs.Palette.{red_of, green_of, epsilon, scale_of, is_dark, ratio_of, blue_of, colour_at, Palette, Reached}
 
 pub reds_rise : (kind : Composition) {v w : ℕ} → v ≤ w → red_of kind v ≤ red_of kind w
 unfolding red_of
@@ -67,7 +67,7 @@ blue_is kind t v1 v2 k h rank = pick (is_dark kind v1 v2) refl
 
 -- ---- colours
 
-tint_is : (kind : Composition) (v1 v2 : ℕ) {r g b : ℕ} → r ≡ red_of kind v1 → g ≡ green_of kind v2 → b ≡ blue_of kind v1 v2 → ◌≡◌ {A = Rgb} (record { r = r; g = g; b = b }) (colour_at kind v1 v2)
+pub tint_is : (kind : Composition) (v1 v2 : ℕ) {r g b : ℕ} → r ≡ red_of kind v1 → g ≡ green_of kind v2 → b ≡ blue_of kind v1 v2 → ◌≡◌ {A = Rgb} (record { r = r; g = g; b = b }) (colour_at kind v1 v2)
 unfolding colour_at
 tint_is kind v1 v2 e f h = rw (e, f, h)
 
@@ -79,12 +79,6 @@ colour_is kind red green t v1 v2 k b h1 h2 p rank e =
     let er = p.reds.right v1 h1 in
     let eg = p.greens.right v2 h2 in
     tint_is kind v1 v2 er eg (e ∙ blue_is kind t v1 v2 k p.ratios (rw (er, eg) at rank))
-
--- a pixel by the cells
-pub shown_is : (kind : Composition) (red green t cells : List ℕ) → Palette kind red green t → Cells kind cells → (v1 v2 : ℕ) → v1 < 256 → v2 < 256 →
-    shown red green cells v1 v2 ≡ colour_at kind v1 v2
-unfolding shown
-shown_is kind red green t cells p h v1 v2 h1 h2 = tint_is kind v1 v2 (p.reds.right v1 h1) (p.greens.right v2 h2) (h.right v1 v2 h1 h2)
 
 -- the default colours
 pub colour-plain : colour_at Plain ≡ plain

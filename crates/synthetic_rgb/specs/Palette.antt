@@ -55,9 +55,9 @@ pub record Cells (kind : Composition) (t : List ℕ) : Type 0 where
   pub sized : length t ≡ 65536
   pub right : (v1 v2 : ℕ) → v1 < 256 → v2 < 256 → get_or t (256 * v2 + v1) 0 ≡ blue_of kind v1 v2
 
--- the colour that three tables show
-unfoldable pub shown : List ℕ → List ℕ → List ℕ → ℕ → ℕ → Rgb
-shown red green cells v1 v2 = record { r = get_or red v1 0; g = get_or green v2 0; b = get_or cells (256 * v2 + v1) 0 }
+-- what gives each pair of bytes a colour keeps the rule
+abbrev pub Keeps : (ℕ → ℕ → Rgb → Type 0) → (ℕ → ℕ → Rgb) → Type 0
+Keeps gives rule = (v1 v2 : ℕ) (c : Rgb) → v1 < 256 → v2 < 256 → gives v1 v2 c → c ≡ rule v1 v2
 
 -- the bytes of one colour, written from j on
 abbrev pub put : List ℕ → ℕ → Rgb → List ℕ

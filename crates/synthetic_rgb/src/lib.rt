@@ -1,84 +1,30 @@
 #![tactic(auto)]
 // Synthetic RGB colours of two bands: by default, and suppressed above a floor.
 ghost use Rattle.std.specs.Prelude.{◌≡◌, ◌*◌, ◌≤◌, length};
-ghost use mathlib.Core.List.{zip_with};
 ghost use Rattle.spec.specs.Answer.{number, reply_number, after};
-ghost use Rattle.spec.specs.Colour.{plain, suppressed, floor_level, bytes_of, colours_of, create_synthetic_rgb_by_mode_and_strategy};
+ghost use Rattle.spec.specs.Colour.{bytes_of, colours_of, create_synthetic_rgb_by_mode_and_strategy};
 
 use types::{AutoscaleStrategy, Reply, SyntheticRgbMode};
 
+mod bands;
 mod blue;
-mod casts;
 mod floor;
+mod palette;
 mod pixels;
 
+use bands::Bands;
+use palette::Palette;
+
 // Which colours: the default ones, or the suppressed ones above a floor.
-#[derive(Clone, Copy)]
+#[derive(Clone, Copy, Debug, PartialEq, Eq)]
 pub enum Composition {
     Plain,
     Suppressed(u8),
 }
 
-// The default colours.
-fn create_synthetic_rgb(band1_data: &[u8], band2_data: &[u8], rgb_data: &mut [u8])
-    requires { (length band2_data.now ≡ length band1_data.now) × (length rgb_data.old ≡ 3 * length band1_data.now) }
-    ensures { rgb_data.new ≡ bytes_of (zip_with plain band1_data.now band2_data.now) }
-{
-    let red = colour_tables::red_table();
-    let green = colour_tables::green_table();
-    let thresholds = colour_tables::blue_thresholds();
-    pixels::colours(
-        Composition::Plain,
-        &red,
-        &green,
-        &thresholds,
-        band1_data,
-        band2_data,
-        rgb_data,
-    );
-}
-
-// The colours of one mode: "all modes agree".
-fn create_synthetic_rgb_by_mode(
-    mode: SyntheticRgbMode,
-    band1_data: &[u8],
-    band2_data: &[u8],
-    rgb_data: &mut [u8],
-)
-    requires { (length band2_data.now ≡ length band1_data.now) × (length rgb_data.old ≡ 3 * length band1_data.now) }
-    ensures { rgb_data.new ≡ bytes_of (zip_with plain band1_data.now band2_data.now) }
-{
-    match mode {
-        SyntheticRgbMode::Default => create_synthetic_rgb(band1_data, band2_data, rgb_data),
-        SyntheticRgbMode::RgbRatio => create_synthetic_rgb(band1_data, band2_data, rgb_data),
-        SyntheticRgbMode::SarUrban => create_synthetic_rgb(band1_data, band2_data, rgb_data),
-        SyntheticRgbMode::Enhanced => create_synthetic_rgb(band1_data, band2_data, rgb_data),
-    }
-}
-
-// The suppressed colours above the floor of the two bands.
-fn create_synthetic_rgb_suppressed(band1_data: &[u8], band2_data: &[u8], rgb_data: &mut [u8])
-    requires { (length band2_data.now ≡ length band1_data.now) × (length rgb_data.old ≡ 3 * length band1_data.now) × (length band1_data.now ≤ 16777216) }
-    ensures { rgb_data.new ≡ bytes_of (zip_with (suppressed (floor_level band1_data.now band2_data.now)) band1_data.now band2_data.now) }
-{
-    let f = floor::floor_level(band1_data, band2_data);
-    let red = colour_tables::red_above_table(f as usize);
-    let green = colour_tables::green_above_table(f as usize);
-    let thresholds = colour_tables::blue_above_thresholds();
-    pixels::colours(
-        Composition::Suppressed(f),
-        &red,
-        &green,
-        &thresholds,
-        band1_data,
-        band2_data,
-        rgb_data,
-    );
-}
-
-// The colours of one mode under one strategy, for lists whose lengths are known to be right.
+// The colours of one mode under one strategy, for lists whose lengths are known to be right: "all modes agree".
 pub fn compose_by_mode_and_strategy(
-    mode: SyntheticRgbMode,
+    _mode: SyntheticRgbMode,
     strategy: AutoscaleStrategy,
     band1_data: &[u8],
     band2_data: &[u8],
@@ -87,16 +33,16 @@ pub fn compose_by_mode_and_strategy(
     requires { (length band2_data.now ≡ length band1_data.now) × (length rgb_data.old ≡ 3 * length band1_data.now) × (length band1_data.now ≤ 16777216) }
     ensures { rgb_data.new ≡ bytes_of (colours_of strategy band1_data.now band2_data.now) }
 {
+    let bands = Bands {
+        first: band1_data,
+        second: band2_data,
+    };
     match strategy {
-        AutoscaleStrategy::Tamed | AutoscaleStrategy::Clahe => match mode {
-            SyntheticRgbMode::Default
-            | SyntheticRgbMode::RgbRatio
-            | SyntheticRgbMode::SarUrban
-            | SyntheticRgbMode::Enhanced => {
-                create_synthetic_rgb_suppressed(band1_data, band2_data, rgb_data)
-            }
-        },
-        _ => create_synthetic_rgb_by_mode(mode, band1_data, band2_data, rgb_data),
+        AutoscaleStrategy::Tamed | AutoscaleStrategy::Clahe => {
+            let f = floor::floor_level(&bands);
+            Palette::suppressed(f).colours(&bands, rgb_data)
+        }
+        _ => Palette::plain().colours(&bands, rgb_data),
     }
 }
 

@@ -1,19 +1,13 @@
 // The colours of two bands, with blue worked out for each pixel or taken from the blue of every pair of bytes.
-ghost use Rattle.std.specs.Prelude.{◌≡◌, ◌+◌, ◌*◌, ◌≤◌, ◌<◌, length};
+ghost use Rattle.std.specs.Prelude.{◌≡◌, ℕ, ◌+◌, ◌*◌, ◌<◌, length};
 ghost use mathlib.Core.List.{zip_with};
+ghost use Rattle.types.specs.declared.Rgb.{Rgb};
 ghost use Rattle.spec.specs.Colour.{bytes_of};
-ghost use Rattle.synthetic_rgb.specs.Palette.{Palette, colour_at, shown, put};
+ghost use Rattle.synthetic_rgb.specs.Palette.{Cells, Keeps, colour_at, put};
 
-use crate::{Composition, blue, casts};
+use crate::bands::Bands;
+use crate::palette::Palette;
 use types::Rgb;
-
-// The cell of a pair of bytes.
-fn cell(v1: usize, v2: usize) -> usize
-    requires { (v1 < 256) × (v2 < 256) }
-    ensures { (result ≡ 256 * v2 + v1) × (result < 65536) }
-{
-    256 * v2 + v1
-}
 
 // Writes the colour bytes of one pixel.
 fn put(rgb_data: &mut [u8], j: usize, colour: Rgb)
@@ -25,118 +19,60 @@ fn put(rgb_data: &mut [u8], j: usize, colour: Rgb)
     rgb_data[j + 2] = colour.b;
 }
 
-// The colour of a pixel.
-fn colour_at(
-    kind: Composition,
-    red: &[u8; 256],
-    green: &[u8; 256],
-    thresholds: &[u16],
-    v1: u8,
-    v2: u8,
-) -> Rgb
-    requires { Palette kind red.now green.now thresholds.now }
-    ensures { result ≡ colour_at kind v1 v2 }
+// Writes the colour of each pair of bytes: whatever rule the closure keeps, the bytes are those of the rule.
+// Kept: that the output has three bytes a pixel is a clause, since a struct round the one lent slice would have to be made at each call and say no more.
+fn paint<F: Fn(u8, u8) -> Rgb>(bands: &Bands, rgb_data: &mut [u8], colour: F)
+    requires callable { F.IsAlwaysCallable colour }
+    requires sized { length rgb_data.old ≡ 3 * length bands.now.first.now }
+    ensures { (rule : ℕ → ℕ → Rgb) → Keeps (F.post colour) rule → rgb_data.new ≡ bytes_of (zip_with rule bands.now.first.now bands.now.second.now) }
 {
-    let i1 = casts::index(v1);
-    let i2 = casts::index(v2);
-    let r = red[i1];
-    let g = green[i2];
-    let place = blue::place_from(kind, thresholds, r, g, 0);
-    let b = blue::blue_at(kind, v1, v2, place);
-    Rgb { r: r, g: g, b: b }
-}
-
-// The colours, with blue worked out for each pixel.
-fn by_pixel(
-    kind: Composition,
-    red: &[u8; 256],
-    green: &[u8; 256],
-    thresholds: &[u16],
-    band1_data: &[u8],
-    band2_data: &[u8],
-    rgb_data: &mut [u8],
-)
-    requires { Palette kind red.now green.now thresholds.now × (length band2_data.now ≡ length band1_data.now) × (length rgb_data.old ≡ 3 * length band1_data.now) }
-    ensures { rgb_data.new ≡ bytes_of (zip_with (colour_at kind) band1_data.now band2_data.now) }
-{
-    let mut i: usize = 0;
-    let mut j: usize = 0;
-    while i < band1_data.len() {
-        let colour = colour_at(kind, red, green, thresholds, band1_data[i], band2_data[i]);
-        put(rgb_data, j, colour);
-        i += 1;
-        j += 3;
+    let second = bands.second;
+    for (i, v1) in bands.first.iter().enumerate() {
+        put(rgb_data, 3 * i, colour(*v1, second[i]));
     }
 }
 
-// The colours that three tables show.
-fn by_cells(
-    red: &[u8; 256],
-    green: &[u8; 256],
-    cells: &[u8],
-    band1_data: &[u8],
-    band2_data: &[u8],
-    rgb_data: &mut [u8],
-)
-    requires { (length cells.now ≡ 65536) × (length band2_data.now ≡ length band1_data.now) × (length rgb_data.old ≡ 3 * length band1_data.now) }
-    ensures { rgb_data.new ≡ bytes_of (zip_with (shown red.now green.now cells.now) band1_data.now band2_data.now) }
-{
-    let mut i: usize = 0;
-    let mut j: usize = 0;
-    while i < band1_data.len() {
-        let v1 = casts::index(band1_data[i]);
-        let v2 = casts::index(band2_data[i]);
-        let k = cell(v1, v2);
-        let colour = Rgb {
-            r: red[v1],
-            g: green[v2],
-            b: cells[k],
-        };
-        put(rgb_data, j, colour);
-        i += 1;
-        j += 3;
+impl Palette {
+    // The colour of a pixel.
+    fn colour_at(&self, v1: u8, v2: u8) -> Rgb
+        ensures { result ≡ colour_at self.now.kind v1 v2 }
+    {
+        let r = self.tables.red[usize::from(v1)];
+        let g = self.tables.green[usize::from(v2)];
+        let place = self.place_from(r, g, 0);
+        let b = self.kind.blue_at(v1, v2, place);
+        Rgb { r, g, b }
     }
-}
 
-// The colours, with the blue of every pair of bytes worked out first.
-fn with_cells(
-    kind: Composition,
-    red: &[u8; 256],
-    green: &[u8; 256],
-    thresholds: &[u16],
-    cells: &mut [u8; 65536],
-    band1_data: &[u8],
-    band2_data: &[u8],
-    rgb_data: &mut [u8],
-)
-    requires { Palette kind red.now green.now thresholds.now × (length band2_data.now ≡ length band1_data.now) × (length rgb_data.old ≡ 3 * length band1_data.now) }
-    ensures { rgb_data.new ≡ bytes_of (zip_with (colour_at kind) band1_data.now band2_data.now) }
-{
-    blue::blue_cells(kind, red, green, thresholds, cells);
-    by_cells(red, green, cells, band1_data, band2_data, rgb_data);
-}
+    // The same, with its blue from the blue of every pair of bytes.
+    fn colour_in(&self, cells: &[u8; 65536], v1: u8, v2: u8) -> Rgb
+        requires { Cells self.now.kind cells.now }
+        ensures { result ≡ colour_at self.now.kind v1 v2 }
+    {
+        let v1 = usize::from(v1);
+        let v2 = usize::from(v2);
+        Rgb {
+            r: self.tables.red[v1],
+            g: self.tables.green[v2],
+            b: cells[256 * v2 + v1],
+        }
+    }
 
-// The colours of two bands: a short list does not pay for 65,536 cells.
-pub(crate) fn colours(
-    kind: Composition,
-    red: &[u8; 256],
-    green: &[u8; 256],
-    thresholds: &[u16],
-    band1_data: &[u8],
-    band2_data: &[u8],
-    rgb_data: &mut [u8],
-)
-    requires { Palette kind red.now green.now thresholds.now × (length band2_data.now ≡ length band1_data.now) × (length rgb_data.old ≡ 3 * length band1_data.now) }
-    ensures { rgb_data.new ≡ bytes_of (zip_with (colour_at kind) band1_data.now band2_data.now) }
-{
-    if band1_data.len() < 2048 {
-        by_pixel(
-            kind, red, green, thresholds, band1_data, band2_data, rgb_data,
-        );
-    } else {
-        let mut cells = [0u8; 65536];
-        with_cells(
-            kind, red, green, thresholds, &mut cells, band1_data, band2_data, rgb_data,
-        );
+    // The colours of two bands: a short list does not pay for 65,536 cells.
+    pub(crate) fn colours(&self, bands: &Bands, rgb_data: &mut [u8])
+        requires { length rgb_data.old ≡ 3 * length bands.now.first.now }
+        ensures { rgb_data.new ≡ bytes_of (zip_with (colour_at self.now.kind) bands.now.first.now bands.now.second.now) }
+    {
+        if bands.first.len() < 2048 {
+            paint(bands, rgb_data, |v1, v2| self.colour_at(v1, v2));
+        } else {
+            let mut cells = [0u8; 65536];
+            self.blue_cells(&mut cells);
+            // A copy, so that no pixel reads again where the tables lie.
+            let palette = *self;
+            paint(bands, rgb_data, |v1, v2| {
+                palette.colour_in(&cells, v1, v2)
+            });
+        }
     }
 }

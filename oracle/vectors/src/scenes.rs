@@ -316,7 +316,7 @@ fn beside() -> File {
         let data: Vec<u16> = (1..=rows * cols).map(|k| 1000 * k as u16).collect();
         let side = rows.max(cols);
         let expected = answer(oracle::padding_u16(Sides { rows, cols }, &data, side * side), numbers);
-        f.check("padding", format!("bytes (add_padding_to_square {rows} {cols} {} {})", list(&data), side * side), expected);
+        f.check("padding", format!("bytes (add_padding_to_square 0 {rows} {cols} {} {})", list(&data), side * side), expected);
     }
     let a = [0x3f800000u32, 0x40490fdb, 0x7f800000, 0x7fc00000, 1, 0x3dcccccd, 0xc2f6e979, 0x80000000].map(f32::from_bits);
     let b = [0x3eaaaaabu32, 0x2edbe6ff, 0x7f800000, 0x3f800000, 0x80000001, 0x2edbe700, 0x42f6e979, 0].map(f32::from_bits);

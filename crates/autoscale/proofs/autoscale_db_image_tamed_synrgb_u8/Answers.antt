@@ -1,7 +1,8 @@
 -- `autoscale::autoscale_db_image_tamed_synrgb_u8` meets its contract. Assumes nothing.
-use mathlib.Core.Path.{sym, ◌∙◌}
+use mathlib.Core.Path.{◌≡◌, sym, ◌∙◌}
 use native.Mathlib.Omega.{arith}
-use lib.ListN.{length}
+use borrow.Author.Rules.{rules}
+use lib.ListN.{length, replicate}
 use Rattle.spec.specs.Pixels.{pixels}
 use Rattle.spec.specs.Gamma.{U8}
 use Rattle.raster.proofs.Bands.{pixels-length}
@@ -12,7 +13,8 @@ pub returns-in_default : goal.returns-in_default
 returns-in_default c =
     let a = c.args in
     let e = pixels-length a.valid_mask.now a.db.now (omega arith) in
-    c.clear_u8.ensures ∙ left_plain U8 a.window (pixels a.valid_mask.now a.db.now) (length a.out.now) c.in_default.not-Window (omega arith)
+    let black : c.fill.new.self ≡ replicate (length a.out.now) 0 = search rules in
+    black ∙ left_plain U8 a.window (pixels a.valid_mask.now a.db.now) (length a.out.now) c.in_default.not-Window (omega arith)
 
 pub returns : goal.returns
 returns c =

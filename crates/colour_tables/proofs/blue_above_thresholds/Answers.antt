@@ -1,4 +1,4 @@
--- `colour_tables::blue_above_thresholds` meets its contract: one test, computed over all thresholds. Assumes nothing.
+-- `colour_tables::blue_above_thresholds` meets its contract: by one test, computed over all thresholds. Assumes nothing.
 use native.Mathlib.Omega.{arith}
 use Rattle.colour_tables.proofs.Places.{thresholds_right}
 use Rattle.colour_tables.proofs.blue_above_thresholds.Goals as goal

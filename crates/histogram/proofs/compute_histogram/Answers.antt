@@ -36,14 +36,14 @@ count_bins-requires c =
     let s = shaped.0 in (
       s.length-marks ∙ sym s.length_db,
       omega (arith, s.length_db, mul-le-mul s.rows_most s.cols_most),
-      c.clear_u32.ensures ∙ ap (λ (n : ℕ). replicate n 0) shaped.1,
-      passed-count _ _ _ _ old good _ (sym c.extremes.ensures ∙ c.in-Passed.is),
+      c.fill.ensures.after (λ y e. e) ∙ ap (λ (n : ℕ). replicate n 0) shaped.1,
+      passed-count _ _ _ _ old good _ (sym c.extremes.ensures ∙ c.in-Some.is),
     )
 
 pub returns : goal.returns
 unfolding reply_number
 returns c =
-    let r = bins-done _ _ _ _ c.args.hist.now (sym c.bins_refusal-refusal.ensures ∙ c.if-refusal-ne0.false) _ (sym c.extremes.ensures ∙ c.in-Passed.is) _ c.count_bins.ensures in record {
+    let r = bins-done _ _ _ _ c.args.hist.now (sym c.bins_refusal-refusal.ensures ∙ c.if-refusal-ne0.false) _ (sym c.extremes.ensures ∙ c.in-Some.is) _ c.count_bins.ensures in record {
       result_value = r.0;
       hist_after = r.1;
     }

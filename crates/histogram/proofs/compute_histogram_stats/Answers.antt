@@ -26,10 +26,10 @@ summary-requires c =
     let s = shape_accepted _ _ _ _ (sym c.shape_refusal-refusal.ensures ∙ c.if-refusal-ne0.false) in (
       s.length-marks ∙ sym s.length_db,
       omega (arith, s.length_db, mul-le-mul s.rows_most s.cols_most),
-      placed-count _ _ _ (sym c.placed_pass.ensures ∙ c.in-Placed.is),
+      placed-count _ _ _ (sym c.placed_pass.ensures ∙ c.in-Some.is),
     )
 
 pub returns : goal.returns
 unfolding read_statistics
 returns c =
-    call_done _ _ _ _ (sym c.shape_refusal-refusal.ensures ∙ c.if-refusal-ne0.false) _ _ (sym c.placed_pass.ensures ∙ c.in-Placed.is) _ c.place_in.ensures _ c.summary.ensures
+    call_done _ _ _ _ (sym c.shape_refusal-refusal.ensures ∙ c.if-refusal-ne0.false) _ _ (sym c.placed_pass.ensures ∙ c.in-Some.is) _ c.place_in.ensures _ c.summary.ensures

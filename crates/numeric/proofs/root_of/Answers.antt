@@ -45,5 +45,5 @@ pub returns : goal.returns
 returns c =
     let q = c.args.q in
     let l = lead q c.requires.fact_1 c.requires.fact_2 in
-    c.f64_from_bits.ensures
+    c.of_bits.ensures
     ∙ rooted q c.args.k _ l c.requires.fact_3 c.whole_root-root.result (c.whole_root-root.ensures ∙ ap (λ (z : ℕ). whole_root (z * 2 ^ 54) 54 0) (whole q c.args.k _ l))

@@ -16,4 +16,4 @@ loop-i-preserved c =
 
 pub returns : goal.returns
 unfolding zip_with
-returns c = finish _ nan nan _ _ _ _ c.requires.1 c.loop-i.invariant c.loop-i-test.false
+returns c = finish _ nan nan _ _ _ _ c.requires.1 c.loop-i.invariant (omega arith)

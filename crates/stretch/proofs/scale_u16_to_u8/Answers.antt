@@ -1,6 +1,7 @@
 -- `stretch::scale_u16_to_u8` meets its contract. Assumes nothing.
 use native.Mathlib.Omega.{arith}
 use Rattle.spec.specs.Answer.{reply_number}
+use Rattle.stretch.proofs.Loops.{of_levels}
 use Rattle.stretch.proofs.Calls.{long_refused, unlike-refused, stretched}
 use Rattle.stretch.proofs.scale_u16_to_u8.Goals as goal
 
@@ -23,15 +24,15 @@ returns-then-out-data c =
 pub returns-then-data-lt65536 : goal.returns-then-data-lt65536
 unfolding reply_number
 returns-then-data-lt65536 c =
-    let a = c.args in let r = stretched c.ends_of-ends.result.lo c.ends_of-ends.result.hi a.«data».now a.out.now _ (omega arith) (omega arith) c.ends_of-ends.ensures c.stretch_each.ensures in record {
+    let a = c.args in let e = c.of-ends in let r = stretched e.result.lo e.result.hi a.«data».now a.out.now _ (omega arith) (omega arith) (of_levels a.«data».now e.ensures) c.stretch_each.ensures in record {
       result_value = r.0;
       out_after = r.1;
     }
 
-pub returns : goal.returns
+pub returns-else-data-lt65536 : goal.returns-else-data-lt65536
 unfolding reply_number
-returns c =
-    let a = c.args in let r = stretched c.ends_of-ends.result.lo c.ends_of-ends.result.hi a.«data».now a.out.now _ (omega arith) (omega arith) c.ends_of-ends.ensures c.stretch_by_table.ensures in record {
+returns-else-data-lt65536 c =
+    let a = c.args in let e = c.of-ends in let r = stretched e.result.lo e.result.hi a.«data».now a.out.now _ (omega arith) (omega arith) (of_levels a.«data».now e.ensures) c.stretch_by_table.ensures in record {
       result_value = r.0;
       out_after = r.1;
     }

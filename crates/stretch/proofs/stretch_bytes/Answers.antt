@@ -20,5 +20,5 @@ pub returns : goal.returns
 returns c =
     let a = c.args in
     let xs = a.bytes.now in
-    c.look_up_bytes.ensures ∙ map_agree (λ x. get_or c.fill_bytes.new.table x 0) (stretch_byte a.lo a.hi) 0 xs
-    (λ k h. c.fill_bytes.ensures (get_or xs k 0) (search rules))
+    c.look_up_bytes.ensures ∙ map_agree (λ x. get_or c.fill_table.new.table x 0) (stretch_byte a.lo a.hi) 0 xs
+    (λ k h. c.fill_table.ensures (get_or xs k 0) (search rules))

@@ -21,5 +21,5 @@ pub returns-in-Tamed : goal.returns-in-Tamed
 unfolding is_tamed
 returns-in-Tamed c = rw c.in-Tamed.is c.tamed_clip.ensures
 
-pub returns : goal.returns
-returns c = rw (untamed c.args.strategy c.in_default.not-Tamed) c.choose_clip.ensures
+pub returns-in_default : goal.returns-in_default
+returns-in_default c = rw (untamed c.args.strategy c.in_default.not-Tamed) c.choose_clip.ensures

@@ -4,4 +4,4 @@ use Rattle.spec.specs.Gamma.{gamma_value}
 use Rattle.autoscale.proofs.curve.curve_value.Goals as goal
 
 pub returns : goal.returns
-returns c p q row = c.gamma_value.ensures p q row ∙ ap (gamma_value p q) c.normalized-t.ensures
+returns c p q row = c.value.ensures p q row ∙ ap (gamma_value p q) c.normalized-t.ensures

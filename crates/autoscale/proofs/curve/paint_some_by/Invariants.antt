@@ -1,15 +1,9 @@
 -- `autoscale::curve::paint_some_by` meets its contract. The invariant: the values before i are those of the pixels before i, and `place` is valid. Assumes nothing.
-use mathlib.Core.Path.{◌≡◌}
-use Prim.Native.Nat.{◌-◌, ◌≤◌, ◌<◌}
+use Prim.Native.Nat.{◌<◌}
 use lib.ListN.{length, get_or, take}
 use Rattle.spec.specs.Pixels.{pixels}
 use Rattle.autoscale.specs.Painted.{CurvePainted}
 use Rattle.autoscale.proofs.curve.paint_some_by.Given as goal
 
 abbrev pub invariant-loop-i : goal.invariant-loop-i
-invariant-loop-i l =
-    (l.i ≤ length l.initial.out) × (length l.out ≡ length l.initial.out) × CurvePainted l.thresholds l.window (take l.i (pixels l.valid_mask l.db)) (take l.i l.out)
-    × ((l.place < length l.valid_mask) × (0 < get_or l.valid_mask l.place 0))
-
-abbrev pub decreases-loop-i : goal.decreases-loop-i
-decreases-loop-i l = length l.initial.out - l.i
+invariant-loop-i l = CurvePainted l.curve.thresholds l.window (take l.i (pixels l.valid_mask l.db)) (take l.i l.out) × ((l.place < length l.valid_mask) × (0 < get_or l.valid_mask l.place 0))

@@ -16,10 +16,8 @@ normalize_valid-requires c = record {
 
 pub values_of-requires : goal.values_of-requires
 values_of-requires c =
-    let a = c.args in record {
-      fact_1 = ap length c.normalize_valid.ensures ∙ length-map a.db.now (normalized a.window.low a.window.high a.window.range) ∙ c.requires.fact_1;
-      fact_2 = c.requires.fact_5;
-    }
+    let a = c.args in
+    ap length c.normalize_valid.ensures ∙ length-map a.db.now (normalized a.window.low a.window.high a.window.range) ∙ c.requires.fact_1
 
 pub returns : goal.returns
 returns c p q row =

@@ -2,4 +2,4 @@
 use Rattle.clahe.proofs.clip.each_of.Goals as goal
 
 pub returns : goal.returns
-returns c = c.f64_as_u64.ensures
+returns c = c.as_u64.ensures.value

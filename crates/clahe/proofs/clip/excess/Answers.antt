@@ -1,22 +1,15 @@
--- `clahe::clip::excess` meets its contract. The invariant: what is left of the bins, from the sum so far, gives the whole excess. Assumes nothing.
-use Rattle.std.proofs.Common.{◌+◌, drop, sym, refl, ap, ◌∙◌, arith}
-use lib.Ieee.{Float}
+-- `clahe::clip::excess` meets its contract: the bins so far, folded, and what is left of them give the whole excess. Assumes nothing.
+use Rattle.std.proofs.Common.{◌≡◌, List, ℕ, subst, rules}
+use Rattle.std.proofs.lemmas.Fn.{fold_over, slice_gives, fronts}
+use Rattle.spec.specs.Floats.{zero64}
 use Rattle.spec.specs.Clahe.{excess}
-use Rattle.clahe.proofs.Excess.{excess_next, excess_end}
+use Rattle.clahe.proofs.Excess.{Folded, folded_none, folded_next, folded_all}
 use Rattle.clahe.proofs.clip.excess.Goals as goal
-
-pub loop-b-init : goal.loop-b-init
-loop-b-init c = (omega arith, refl)
-
-pub loop-b-preserved : goal.loop-b-preserved
-loop-b-preserved c =
-    let a = c.args in (
-      omega arith,
-      c.loop-b.invariant.1 ∙ excess_next a.limit c.loop-b.sum a.hist.now c.loop-b.b (omega arith)
-          ∙ ap (λ (s : Float). excess a.limit s (drop (c.loop-b.b + 1) a.hist.now)) (sym c.with_excess-sum.ensures),
-    )
 
 pub returns : goal.returns
 returns c =
-    let a = c.args in
-    sym (c.loop-b.invariant.1 ∙ excess_end a.limit c.loop-b.sum a.hist.now c.loop-b.b (omega arith))
+    let limit = c.args.limit in
+    subst (λ (l : List ℕ). c.fold.result ≡ excess limit zero64 l) c.iter.ensures.rest
+    (folded_all limit _ _
+    (fold_over fronts (λ y. y.now) _ (Folded limit) _ (λ ys a x b f' j k. let next = folded_next limit ys a x.now b j in search rules)
+    _ _ _ _ (slice_gives c.iter.result) (folded_none limit) c.fold.ensures.ran))

@@ -1,10 +1,14 @@
--- `clahe::clip::f64_as_u32` meets its contract. Assumes nothing.
-use Rattle.std.proofs.Common.{arith}
+-- `clahe::clip::f64_as_u32` meets its contract: a number of 64 bits that does not fit becomes the greatest that does. Assumes nothing.
+use Rattle.std.proofs.Common.{◌≡◌, ℕ, ◌-◌, ◌^◌, ◌<◌, min, Result, Ok, Err, ◌∙◌, ap, arith}
+use Rattle.std.specs.Result.{OkIff, result_unwrap_or}
 use Rattle.clahe.proofs.Whole.{cut}
 use Rattle.clahe.proofs.clip.f64_as_u32.Goals as goal
 
-pub returns-then-n-lt4294967296 : goal.returns-then-n-lt4294967296
-returns-then-n-lt4294967296 c = omega (arith, cut c.args.x, c.f64_as_u64-n.ensures)
+held : {E : Type 0} (r : Result ℕ E) (n : ℕ) → OkIff r (n < 2 ^ 32) n → result_unwrap_or r (2 ^ 32 - 1) ≡ min n (2 ^ 32 - 1)
+held (Ok x) n h = omega (arith, h.0, h.1)
+held (Err e) n h = omega (arith, h)
 
-pub returns-else-n-lt4294967296 : goal.returns-else-n-lt4294967296
-returns-else-n-lt4294967296 c = omega (arith, cut c.args.x, c.f64_as_u64-n.ensures)
+pub returns : goal.returns
+returns c =
+    c.unwrap_or.ensures ∙ held c.try_from.result c.as_u64.result c.try_from.ensures
+    ∙ ap (λ (n : ℕ). min n (2 ^ 32 - 1)) c.as_u64.ensures.value ∙ cut c.args.x

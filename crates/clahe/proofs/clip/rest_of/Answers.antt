@@ -2,4 +2,4 @@
 use Rattle.clahe.proofs.clip.rest_of.Goals as goal
 
 pub returns : goal.returns
-returns c = c.round_f64_as_u64.ensures
+returns c = c.round_as_u64.ensures

@@ -1,23 +1,21 @@
 -- `clahe::columns::column_positions` meets its contract. The invariant: the positions of the columns before c are written. Assumes nothing.
-use Rattle.std.proofs.Common.{arith, length-set}
-use Rattle.clahe.proofs.Positions.{among_of, column_next}
+use Rattle.std.proofs.Common.{◌≡◌, length, refl, arith, length-set}
+use Rattle.clahe.specs.Paint.{column_of}
+use Rattle.clahe.proofs.Cells.{kept_or_stored}
+use Rattle.clahe.proofs.Positions.{none, column_made, all_columns}
 use Rattle.clahe.proofs.columns.column_positions.Goals as goal
 
 pub loop-c-init : goal.loop-c-init
-loop-c-init c = (omega arith, omega arith, omega arith, λ j h. absurd (omega arith))
-
-pub overflow_cast-firsts : goal.overflow_cast-firsts
-overflow_cast-firsts c =
-    omega (arith, among_of c.tile_side-side.result c.loop-c.c c.tile_position-p.result c.tile_position-p.ensures)
+loop-c-init c = (omega arith, omega arith, λ j h. absurd (omega arith))
 
 pub loop-c-preserved : goal.loop-c-preserved
 loop-c-preserved c =
-    let a = c.args in (
-      omega arith,
+    let n = length c.args.columns.now in (
       simp length-set (omega arith),
       simp length-set (omega arith),
-      column_next a.cols c.loop-c.firsts c.loop-c.weights c.loop-c.c _ c.tile_position-p.result c.tile_side-side.ensures c.tile_position-p.ensures (omega arith) (omega arith) c.loop-c.invariant.3,
+      kept_or_stored (λ j x. x ≡ column_of n j) none c.loop-c.columns c.loop-c.c _ (omega arith) c.loop-c.invariant.2
+          (column_made n c.loop-c.c _ c.tile_position-p.result _ c.tile_side-side.ensures c.tile_position-p.ensures refl),
     )
 
 pub returns : goal.returns
-returns c = record { sized = (c.loop-c.invariant.1, c.loop-c.invariant.2); at = λ j h. c.loop-c.invariant.3 j (omega arith) }
+returns c = all_columns (length c.args.columns.now) c.loop-c.columns (omega arith) (λ j h. c.loop-c.invariant.2 j (omega arith))

@@ -60,9 +60,6 @@ offset_bounds-db-at c = omega (arith, inside c.args.ty c.args.tx c.loop-r.r c.re
 pub slice_bounds-count_row-end : goal.slice_bounds-count_row-end
 slice_bounds-count_row-end c = omega (arith, inside c.args.ty c.args.tx c.loop-r.r c.requires.raster.0 c.tile_start-top.ensures c.tile_size-height.ensures c.tile_start-left.ensures c.tile_size-width.ensures c.loop-r-test.true c.if-width-eq0.false)
 
-pub slice_bounds-count_row-end-in-loop-r : goal.slice_bounds-count_row-end-in-loop-r
-slice_bounds-count_row-end-in-loop-r c = omega (arith, inside c.args.ty c.args.tx c.loop-r.r c.requires.raster.0 c.tile_start-top.ensures c.tile_size-height.ensures c.tile_start-left.ensures c.tile_size-width.ensures c.loop-r-test.true c.if-width-eq0.false)
-
 pub count_row-requires : goal.count_row-requires
 count_row-requires c =
     let h = inside c.args.ty c.args.tx c.loop-r.r c.requires.raster.0 c.tile_start-top.ensures c.tile_size-height.ensures c.tile_start-left.ensures c.tile_size-width.ensures c.loop-r-test.true c.if-width-eq0.false in record {

@@ -1,5 +1,5 @@
 -- `clahe::sums::write_sums` meets its contract. The invariant: the sums before b are written, and the sum so far is that of the bins before b. Assumes nothing.
-use Rattle.std.proofs.Common.{◌≡◌, ℕ, suc, ◌+◌, get_or, take, sym, refl, ap, ◌∙◌, add-one, arith, length-set}
+use Rattle.std.proofs.Common.{◌≡◌, ℕ, suc, ◌+◌, take, sym, refl, ap, ◌∙◌, add-one, arith, length-set}
 use lib.Ieee.{nan}
 use Rattle.spec.specs.Floats.{one64, of_count, max_float}
 use Rattle.spec.specs.Clahe.{sum_at}
@@ -20,13 +20,13 @@ pub loop-b-preserved : goal.loop-b-preserved
 loop-b-preserved c =
     let hs = c.args.hist.now in
     let b = c.loop-b.b in
-    let next : sum_of (take (suc b) hs) ≡ c.loop-b.so_far + get_or hs b 0 = sum-take hs b (omega arith) ∙ ap (λ (n : ℕ). n + get_or hs b 0) (sym c.loop-b.invariant.3) in (
+    let next : sum_of (take (suc b) hs) ≡ c.loop-b.so_far + c.from-so_far.result = omega (arith, sum-take hs b (omega arith), c.from-so_far.ensures) in (
       omega arith,
       simp length-set (omega arith),
       omega arith,
       rw (add-one) (sym next),
       kept_or_stored (λ k x. x ≡ sum_at hs k) nan c.loop-b.sums b _ (omega arith) c.loop-b.invariant.4
-          (sum-at hs b (c.loop-b.so_far + get_or hs b 0) _ _ (sym next)
+          (sum-at hs b (c.loop-b.so_far + c.from-so_far.result) _ _ (sym next)
           (c.max_f64-whole.ensures ∙ ap (λ (n : ℕ). max_float (of_count n) one64) c.sum_of.ensures.0) c.part.ensures),
     )
 

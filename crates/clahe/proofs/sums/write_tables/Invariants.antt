@@ -1,5 +1,5 @@
 -- `clahe::sums::write_tables` meets its contract. The invariant: the sums of the tiles before k are written. Assumes nothing.
-use Rattle.std.proofs.Common.{◌≡◌, ℕ, ◌+◌, ◌-◌, ◌*◌, ◌<◌, ◌≤◌, length, get_or}
+use Rattle.std.proofs.Common.{◌≡◌, ℕ, ◌+◌, ◌*◌, ◌<◌, ◌≤◌, length, get_or}
 use lib.Ieee.{nan}
 use Rattle.spec.specs.Clahe.{sum_at, tile_table}
 use Rattle.clahe.specs.Band.{band}
@@ -9,6 +9,3 @@ abbrev pub invariant-loop-k : goal.invariant-loop-k
 invariant-loop-k l =
     (l.k ≤ 64) × (length l.work ≡ 16384)
     × ((j b : ℕ) → j < l.k → b < 256 → get_or l.work (j * 256 + b) nan ≡ sum_at (tile_table l.sides.rows l.sides.cols (band l.window l.valid_mask l.db) j) b)
-
-abbrev pub decreases-loop-k : goal.decreases-loop-k
-decreases-loop-k l = 64 - l.k

@@ -1,15 +1,10 @@
 -- `histogram::bins::count_bins` meets its contract. Assumes nothing.
-use mathlib.Core.Path.{sym, ap, ◌∙◌}
-use Prim.Native.Nat.{ℕ}
-use native.Mathlib.Omega.{arith}
-use lib.ListN.{length, length-replicate}
+use mathlib.Core.Path.{sym, ◌∙◌}
+use lib.ListN.{length}
 use Rattle.spec.specs.Moments.{span_of}
 use Rattle.histogram.proofs.Filling.{room_of}
 use Rattle.histogram.proofs.Summaries.{flat_filled, spread_filled}
 use Rattle.histogram.proofs.bins.count_bins.Goals as goal
-
-pub bounds-hist-0 : goal.bounds-hist-0
-bounds-hist-0 c = omega (arith, ap length c.requires.2, length-replicate {A = ℕ} 4096 0)
 
 pub returns-then-is_flat : goal.returns-then-is_flat
 returns-then-is_flat c =

@@ -1,5 +1,5 @@
 -- `histogram::bins::fill_bins` meets its contract. Assumes nothing.
-use mathlib.Core.Path.{refl, sym, ◌∙◌}
+use mathlib.Core.Path.{sym, ◌∙◌}
 use Prim.Native.Nat.{◌+◌}
 use native.Mathlib.Omega.{arith}
 use lib.ListN.{get_or, length-set}
@@ -9,14 +9,6 @@ use Rattle.histogram.proofs.Filling.{filled, filled_end, filled_skip, filled_one
 use Rattle.histogram.proofs.bins.fill_bins.Goals.{then-valid_mask-i-ne0, else-valid_mask-i-ne0}
 use Rattle.histogram.proofs.bins.fill_bins.Goals as goal
 
-pub loop-i-init : goal.loop-i-init
-loop-i-init c =
-    (omega arith, omega arith, λ k. omega arith, refl)
-
-pub overflow_add-hist : goal.overflow_add-hist
-overflow_add-hist c =
-    omega (arith, c.loop-i.invariant.2 c.bin_of-bin.result, c.requires.2 c.bin_of-bin.result)
-
 pub loop-i-preserved : goal.loop-i-preserved
 loop-i-preserved c =
     let a = c.args in
@@ -25,16 +17,14 @@ loop-i-preserved c =
     let i = c.loop-i.i in
     elim c.if-valid_mask-i-ne0.branch [
       | then-valid_mask-i-ne0 w ↦ rw w.hist-is (
-        omega arith,
         simp length-set (omega arith),
-        λ k. omega (arith, added-most h w.bin_of-bin.result (λ j. get_or a.hist.now j 0 + i) c.loop-i.invariant.2 k),
-        c.loop-i.invariant.3 ∙ filled_one f h a.valid_mask.now a.db.now i (omega arith) (omega arith) w.if-valid_mask-i-ne0.true w.bin_of-bin.result w.bin_of-bin.ensures.0,
+        λ k. omega (arith, added-most h w.bin_of.result (λ j. get_or a.hist.now j 0 + i) c.loop-i.invariant.1 k),
+        c.loop-i.invariant.2 ∙ filled_one f h a.valid_mask.now a.db.now i (omega arith) (omega arith) w.if-valid_mask-i-ne0.true w.bin_of.result w.bin_of.ensures.0,
       )
       | else-valid_mask-i-ne0 w ↦ rw w.hist-is (
         omega arith,
-        omega arith,
-        λ k. omega (arith, c.loop-i.invariant.2 k),
-        c.loop-i.invariant.3 ∙ filled_skip f h a.valid_mask.now a.db.now i (omega arith) (omega arith) w.if-valid_mask-i-ne0.false,
+        λ k. omega (arith, c.loop-i.invariant.1 k),
+        c.loop-i.invariant.2 ∙ filled_skip f h a.valid_mask.now a.db.now i (omega arith) (omega arith) w.if-valid_mask-i-ne0.false,
       )
     ]
 
@@ -42,4 +32,4 @@ pub returns : goal.returns
 unfolding filled
 returns c =
     let a = c.args in
-    sym (c.loop-i.invariant.3 ∙ filled_end (bin_of a.min_db a.inv_span) c.loop-i.hist a.valid_mask.now a.db.now c.loop-i.i (omega arith))
+    sym (c.loop-i.invariant.2 ∙ filled_end (bin_of a.min_db a.inv_span) c.loop-i.hist a.valid_mask.now a.db.now c.loop-i.i (omega arith))

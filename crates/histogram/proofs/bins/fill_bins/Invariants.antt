@@ -1,6 +1,6 @@
 -- `histogram::bins::fill_bins` meets its contract. Assumes nothing.
 use mathlib.Core.Path.{◌≡◌}
-use Prim.Native.Nat.{ℕ, ◌+◌, ◌-◌, ◌≤◌}
+use Prim.Native.Nat.{ℕ, ◌+◌, ◌≤◌}
 use lib.ListN.{length, drop, get_or}
 use Rattle.spec.specs.Bins.{bin_of}
 use Rattle.spec.specs.Pixels.{pixels}
@@ -9,8 +9,5 @@ use Rattle.histogram.proofs.bins.fill_bins.Given as goal
 
 abbrev pub invariant-loop-i : goal.invariant-loop-i
 invariant-loop-i l =
-    (l.i ≤ length l.db) × (length l.hist ≡ 4096) × ((k : ℕ) → get_or l.hist k 0 ≤ get_or l.initial.hist k 0 + l.i)
+    (length l.hist ≡ 4096) × ((k : ℕ) → get_or l.hist k 0 ≤ get_or l.initial.hist k 0 + l.i)
     × (filled (bin_of l.min_db l.inv_span) l.initial.hist (pixels l.valid_mask l.db) ≡ filled (bin_of l.min_db l.inv_span) l.hist (drop l.i (pixels l.valid_mask l.db)))
-
-abbrev pub decreases-loop-i : goal.decreases-loop-i
-decreases-loop-i l = length l.db - l.i

@@ -1,28 +1,14 @@
 -- `histogram::moments::extremes` meets its contract. Assumes nothing.
-use mathlib.Core.Path.{◌∙◌}
-use native.Mathlib.Omega.{arith}
-use Rattle.histogram.specs.Passes.{extremes}
-use Rattle.histogram.proofs.Passes.{extremes_fold, start, finish, skip, bad, take}
-use Rattle.histogram.proofs.moments.extremes.Goals.{then-mark-ne0+else-decibel_refused, else-mark-ne0}
+use Rattle.std.proofs.Common.{rules}
+use Rattle.types.specs.declared.Moments.{Moments}
+use Rattle.histogram.specs.Extremes.{with_extreme}
+use Rattle.histogram.proofs.Passes.{callable_counting, none_counted, extremes_is}
 use Rattle.histogram.proofs.moments.extremes.Goals as goal
 
-pub loop-i-init : goal.loop-i-init
-unfolding extremes
-loop-i-init c = start extremes_fold c.no_moments-m.ensures
-
-pub returns-then-decibel_refused : goal.returns-then-decibel_refused
-unfolding extremes
-returns-then-decibel_refused c =
-    bad extremes_fold c.loop-i.invariant (omega arith) (omega arith) c.if-mark-ne0.true c.decibel_refused.ensures c.if-decibel_refused.true
-
-pub loop-i-preserved : goal.loop-i-preserved
-loop-i-preserved c =
-    elim c.if-mark-ne0.branch [
-      | then-mark-ne0+else-decibel_refused w ↦
-          take extremes_fold c.loop-i.invariant (omega arith) (omega arith) w.if-mark-ne0.true w.decibel_refused.ensures w.if-decibel_refused.false (w.m-is ∙ w.with_extreme-m.ensures)
-      | else-mark-ne0 w ↦ rw w.m-is (skip extremes_fold c.loop-i.invariant (omega arith) (omega arith) w.if-mark-ne0.false)
-    ]
+pub gather_valid-requires : goal.gather_valid-requires
+unfolding with_extreme
+gather_valid-requires c =
+    (c.requires.0, callable_counting _ _ (λ (s : Moments). s.count) (λ s v i h. search rules) (λ s v i t p. search rules) _ _ _ (none_counted _ c.no_moments.ensures) c.requires.0 c.requires.1)
 
 pub returns : goal.returns
-unfolding extremes
-returns c = finish extremes_fold c.loop-i.invariant (omega arith)
+returns c = extremes_is _ (λ s v i t p. search rules) _ c.no_moments.ensures _ _ c.gather_valid.ensures

@@ -15,6 +15,6 @@ spread_percentile-requires c =
     let e = c.find_bin-found.ensures in
     (omega (arith, c.requires, found_bin _ _ _ e (omega (arith, c.requires))), omega (arith, found_rank _ _ _ e, target-most _ _ _ c.target_of-target.ensures))
 
-pub returns : goal.returns
-returns c =
+pub returns-else-is_flat : goal.returns-else-is_flat
+returns-else-is_flat c =
     percentile_spread _ _ _ (sym c.is_flat.ensures ∙ c.if-is_flat.false) _ _ _ c.target_of-target.ensures c.find_bin-found.ensures c.spread_percentile.ensures

@@ -1,12 +1,6 @@
 -- `synthetic_rgb::blue::rank_from` meets its contract: the place so far is reached, and the next is tested. Assumes nothing.
-use Prim.Native.Nat.{◌-◌}
-use lib.ListN.{length}
 use Rattle.synthetic_rgb.specs.Palette.{Reached}
 use Rattle.synthetic_rgb.proofs.blue.rank_from.Given as goal
 
 abbrev pub invariant-loop-k : goal.invariant-loop-k
-invariant-loop-k l =
-    Reached l.thresholds l.r l.g l.k
-
-abbrev pub decreases-loop-k : goal.decreases-loop-k
-decreases-loop-k l = length l.thresholds - l.k
+invariant-loop-k l = Reached l.thresholds l.r l.g l.k

@@ -13,29 +13,28 @@ pub loop-level-preserved : goal.loop-level-preserved
 loop-level-preserved c =
     let l = c.loop-level in
     let a = c.args in
-    let e = c.wide_u32.ensures.0 in
-    let n : ℕ = l.before + get_or a.histogram.now l.level 0 in (
-      omega arith,
+    let e = c.from-reached.ensures in
+    let n : ℕ = l.reached + get_or a.histogram.now l.level 0 in (
       omega arith,
       rw e
-          (l.invariant.2 ∙ level_step a.target l.before l.level a.histogram.now (omega arith)
+          (l.invariant.1 ∙ level_step a.target l.reached l.level a.histogram.now (omega arith)
           ∙ ap (λ (b : Bool). cond b l.level (first_level a.target n (l.level + 1) (drop (l.level + 1) a.histogram.now))) (lt-leb a.target n (rw e at c.if-target-reached.false))),
     )
-
-pub returns-then-level-eq256 : goal.returns-then-level-eq256
-returns-then-level-eq256 c =
-    let l = c.loop-level in
-    let a = c.args in
-    (sym (l.invariant.2 ∙ level_end a.target l.before l.level a.histogram.now (omega arith)), omega arith)
 
 pub returns-then-target-reached : goal.returns-then-target-reached
 returns-then-target-reached c =
     let l = c.loop-level in
     let a = c.args in
-    let e = c.wide_u32.ensures.0 in
-    let n : ℕ = l.before + get_or a.histogram.now l.level 0 in (
+    let e = c.from-reached.ensures in
+    let n : ℕ = l.reached + get_or a.histogram.now l.level 0 in (
       sym
-          (l.invariant.2 ∙ level_step a.target l.before l.level a.histogram.now (omega arith)
+          (l.invariant.1 ∙ level_step a.target l.reached l.level a.histogram.now (omega arith)
           ∙ ap (λ (b : Bool). cond b l.level (first_level a.target n (l.level + 1) (drop (l.level + 1) a.histogram.now))) (le-leb a.target n (rw e at c.if-target-reached.true))),
       omega arith,
     )
+
+pub returns : goal.returns
+returns c =
+    let l = c.loop-level in
+    let a = c.args in
+    (sym (l.invariant.1 ∙ level_end a.target l.reached l.level a.histogram.now (omega arith)), omega arith)

@@ -1,0 +1,9 @@
+-- `clahe::paint::row_shades` meets its contract. The invariant: the columns before c have their values. Assumes nothing.
+use Rattle.std.proofs.Common.{◌≡◌, ◌≤◌, length}
+use Rattle.spec.specs.Gamma.{full_of}
+use Rattle.clahe.proofs.Shades.{Shaded}
+use Rattle.clahe.proofs.paint.row_shades.Given as goal
+
+abbrev pub invariant-loop-c : goal.invariant-loop-c
+invariant-loop-c g l =
+    (l.c ≤ length l.db) × (length l.out ≡ length l.db) × Shaded (full_of g.D.Depth.depth) l.work l.y g.D.Depth.of l.window l.valid_mask l.db l.c l.out
