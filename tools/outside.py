@@ -32,7 +32,7 @@ def body(text, at):
 contracts, public, exported = {}, [], set()
 for path in sorted(glob.glob('crates/*/src/**/*.rt', recursive=True)):
     crate, text = path.split('/')[1], re.sub(r'//[^\n]*', '', read(path))
-    for m in re.finditer(r'^[ \t]*(pub |pub\(crate\) )?(extern "C" )?fn (\w+)\(', text, re.M):
+    for m in re.finditer(r'^[ \t]*(pub |pub\(crate\) )?(extern "C" )?fn (\w+)(?:<.*?>)?\(', text, re.M):
         end = body(text, m.end())
         name = f'{crate}::{m.group(3)}'
         contracts.setdefault(name, []).append(text[m.end():end])
