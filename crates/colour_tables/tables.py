@@ -35,11 +35,11 @@ def least_fraction(m, x):
 
 # Where blue becomes 1, 2, ..: numerator and denominator of r / g, each at most m, g not below least. A 0 / 1 stands in front.
 def thresholds(scale, least, m):
-    pairs = [0, 1]
+    pairs = [(0, 1)]
     k = 1
     while (2 * k - 1) ** 10 * 10**10 * least <= scale**10 * m:
         x = least_fraction(m, Fraction((2 * k - 1) ** 10 * 10**10, scale**10))
-        pairs += [x.numerator, x.denominator]
+        pairs.append((x.numerator, x.denominator))
         k += 1
     return pairs
 
@@ -49,9 +49,16 @@ def rows(numbers, indent):
         print(indent + ", ".join(str(n) for n in numbers[i : i + 16]) + ",")
 
 
-def table(comment, name, kind, numbers):
-    print(f"\n// {comment}\npub const {name}: [{kind}; {len(numbers)}] = [")
+def table(comment, name, numbers):
+    print(f"\n// {comment}\npub const {name}: [u8; {len(numbers)}] = [")
     rows(numbers, "    ")
+    print("];")
+
+
+def ratios(comment, name, pairs):
+    print(f"\n// {comment}\npub const {name}: [[u16; 2]; {len(pairs)}] = [")
+    for n, d in pairs:
+        print(f"    [{n}, {d}],")
     print("];")
 
 
@@ -65,9 +72,9 @@ def floors(comment, name, rule):
 
 
 print("// The numbers of the colour tables, written by tables.py.")
-table("The default red of each byte.", "RED", "u8", [red(v) for v in range(256)])
-table("The default green of each byte.", "GREEN", "u8", [green(v) for v in range(256)])
+table("The default red of each byte.", "RED", [red(v) for v in range(256)])
+table("The default green of each byte.", "GREEN", [green(v) for v in range(256)])
 floors("The suppressed red of each byte, for each floor from 3 to 40.", "RED_ABOVE", red_above)
 floors("The suppressed green of each byte, for each floor from 3 to 40.", "GREEN_ABOVE", green_above)
-table("Numerator and denominator of the red to green ratio at which the default blue reaches 0, 1, 2 and so on.", "BLUE", "u16", thresholds(1224, 1, 255))
-table("The same for the suppressed blue, each side of the ratio with 8 more.", "BLUE_ABOVE", "u16", thresholds(918, 8, 263))
+ratios("Numerator and denominator of the red to green ratio at which the default blue reaches 0, 1, 2 and so on.", "BLUE", thresholds(1224, 1, 255))
+ratios("The same for the suppressed blue, each side of the ratio with 8 more.", "BLUE_ABOVE", thresholds(918, 8, 263))

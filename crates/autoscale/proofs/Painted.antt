@@ -5,53 +5,41 @@ use mathlib.Core.List.{List, [], ◌∷◌, map}
 use Prim.Native.Nat.{ℕ, zero-le}
 use borrow.Author.Tests.{le-ltb}
 use lib.ListN.{length, replicate}
-use lib.Ieee.{Float, ne}
+use lib.Ieee.{Float}
 use Rattle.types.specs.declared.AutoscaleStrategy.{AutoscaleStrategy}
-use Rattle.types.specs.declared.WindowAnswer.{WindowAnswer}
-use Rattle.types.specs.declared.WindowAnswer.TheVariants.{Window, Blank, Refused}
-use Rattle.spec.specs.Floats.{one64}
+use Rattle.types.specs.declared.WindowFloats.{WindowFloats}
+use Rattle.std.specs.Prelude.{Option, Some, None}
 use Rattle.spec.specs.Gamma.{BitDepth, U16, grey_value}
 use Rattle.spec.specs.Grey.{black, values}
 use Rattle.spec.specs.Lists.{lowest, highest}
-use Rattle.spec.specs.Pixels.{Pixel}
+use Rattle.spec.specs.Pixels.{Pixel, pixels}
 use Rattle.spec.specs.Strategies.{is_clahe}
 use Rattle.spec.specs.Stretch.{stretch_byte, stretch}
 use Rattle.spec.specs.Value.{full16, value_of, paint}
-use Rattle.spec.specs.Window.{gamma_refused}
+use Rattle.raster.proofs.Bands.{pixels-length}
 use Rattle.autoscale.specs.Painted.{plain_values}
 
 -- outside Clahe neither the strategy nor the sides matter
-pub values_outside : (depth : BitDepth) (strategy : AutoscaleStrategy) (rows cols : ℕ) (px : List Pixel) (w : WindowAnswer) → is_clahe strategy ≡ false →
+pub values_outside : (depth : BitDepth) (strategy : AutoscaleStrategy) (rows cols : ℕ) (px : List Pixel) (w : Option WindowFloats) → is_clahe strategy ≡ false →
     values depth strategy rows cols px w ≡ plain_values depth px w
 unfolding values is_clahe
-values_outside depth strategy rows cols px Blank e = refl
-values_outside depth strategy rows cols px (Refused k) e = refl
-values_outside depth strategy rows cols px (Window low high range gamma) e = rw e
+values_outside depth strategy rows cols px None e = refl
+values_outside depth strategy rows cols px (Some window) e = rw e
 
 -- ---- a window
-module _ (w : WindowAnswer) (low high range gamma : Float) (is : w ≡ Window low high range gamma) where
-  pub plain-window : (depth : BitDepth) (px : List Pixel) → plain_values depth px w ≡ map (paint (grey_value depth gamma low high range)) px
+module _ (w : Option WindowFloats) (window : WindowFloats) (is : w ≡ Some window) where
+  pub plain-window : (depth : BitDepth) (px : List Pixel) → plain_values depth px w ≡ map (paint (grey_value depth window.gamma window.low window.high window.range)) px
   unfolding values is_clahe
   plain-window depth px = ap (plain_values depth px) is
 
   -- at U16 the gamma does not matter
-  pub plain-window_16 : (px : List Pixel) → plain_values U16 px w ≡ map (paint (value_of full16 low high range)) px
+  pub plain-window_16 : (px : List Pixel) → plain_values U16 px w ≡ map (paint (value_of full16 window.low window.high window.range)) px
   unfolding grey_value
   plain-window_16 px = plain-window U16 px
 
-  pub gamma_other : ne gamma one64 ≡ gamma_refused w
-  unfolding gamma_refused
-  gamma_other = sym (ap gamma_refused is)
-
 -- ---- no window
-abbrev pub NoWindow : WindowAnswer → Type 0
-NoWindow w = (low high range gamma : Float) → w ≡ Window low high range gamma → ⊥
-
-pub no_gamma : (w : WindowAnswer) → NoWindow w → false ≡ gamma_refused w
-unfolding gamma_refused
-no_gamma (Window low high range gamma) h = absurd (h low high range gamma refl)
-no_gamma Blank h = refl
-no_gamma (Refused k) h = refl
+abbrev pub NoWindow : Option WindowFloats → Type 0
+NoWindow w = (window : WindowFloats) → w ≡ Some window → ⊥
 
 zeros : {A : Type 0} (xs : List A) → ◌≡◌ {A = List ℕ} (map (λ x. 0) xs) (replicate (length xs) 0)
 zeros [] = refl
@@ -75,15 +63,14 @@ stretch-zeros : {A : Type 0} (xs : List A) → stretch (map (λ x. 0) xs) ≡ ma
 unfolding stretch
 stretch-zeros xs = ap (λ (h : ℕ). map (stretch_byte (lowest 65535 (map (λ x. 0) xs)) h) (map (λ x. 0) xs)) (no_highest xs) ∙ each-zero (lowest 65535 (map (λ x. 0) xs)) xs
 
--- without a window a band is all zeros, stretched or not
-pub left_plain : (depth : BitDepth) (w : WindowAnswer) (px : List Pixel) (n : ℕ) → NoWindow w → length px ≡ n → replicate n 0 ≡ plain_values depth px w
-unfolding values black
-left_plain depth (Window low high range gamma) px n h e = absurd (h low high range gamma refl)
-left_plain depth Blank px n h e = rw (← e) (sym (zeros px))
-left_plain depth (Refused k) px n h e = rw (← e) (sym (zeros px))
+-- without a window the values of a band of n pixels are zeros, stretched or not
+module _ (depth : BitDepth) (w : Option WindowFloats) (is : w ≡ None) (m : List ℕ) (d : List Float) (n : ℕ) (lm : length m ≡ length d) (ld : length d ≡ n) (out : List ℕ) (blank : out ≡ replicate n 0) where
+  zeros_of : out ≡ map (λ x. 0) (pixels m d)
+  zeros_of = blank ∙ ap (λ (k : ℕ). replicate k 0) (sym (pixels-length m d lm ∙ ld)) ∙ sym (zeros (pixels m d))
 
-pub left_stretched : (depth : BitDepth) (w : WindowAnswer) (px : List Pixel) (n : ℕ) → NoWindow w → length px ≡ n → replicate n 0 ≡ stretch (plain_values depth px w)
-unfolding values black
-left_stretched depth (Window low high range gamma) px n h e = absurd (h low high range gamma refl)
-left_stretched depth Blank px n h e = rw (← e) (sym (stretch-zeros px ∙ zeros px))
-left_stretched depth (Refused k) px n h e = rw (← e) (sym (stretch-zeros px ∙ zeros px))
+  pub left_plain : out ≡ plain_values depth (pixels m d) w
+  unfolding values black
+  left_plain = zeros_of ∙ sym (ap (plain_values depth (pixels m d)) is)
+
+  pub left_stretched : out ≡ stretch (plain_values depth (pixels m d) w)
+  left_stretched = zeros_of ∙ sym (stretch-zeros (pixels m d)) ∙ ap stretch (sym zeros_of ∙ left_plain)

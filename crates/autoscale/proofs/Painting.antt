@@ -25,7 +25,7 @@ use Rattle.spec.specs.Value.{full8, normalized, value_of, paint}
 use Rattle.autoscale.specs.Painted.{AllValid}
 use Rattle.lists.proofs.Rows.{step}
 use Rattle.lists.proofs.Zip.{zip-take, zip-drop}
-use Rattle.raster.proofs.Bands.{drop-pixels, pixels-length}
+use Rattle.raster.proofs.Bands.{drop-pixels, pixels_same, pixels-length}
 
 -- ---- one pixel, by the value of its dB, as an element that holds numbers by `of`
 module _ {B : Type 0} (of : ℕ → B) (value : Float → ℕ) where
@@ -143,32 +143,32 @@ none-valid marks e k h =
     invalid-zero (get_or marks k 0) (fails_before_first valid marks k 0 (omega (arith, all, h)))
 
 -- ---- block by block
-pixels_part : (at n : ℕ) (m : List ℕ) (d : List Float) → pixels (take n (drop at m)) (take n (drop at d)) ≡ take n (drop at (pixels m d))
+pixels_part : {m' : List ℕ} {d' : List Float} (at n : ℕ) (m : List ℕ) (d : List Float) → d' ≡ take n (drop at d) → m' ≡ take n (drop at m) → pixels m' d' ≡ take n (drop at (pixels m d))
 unfolding pixels
-pixels_part at n m d = zip-take pixel n (drop at m) (drop at d) ∙ ap (take n) (zip-drop pixel at m d)
+pixels_part at n m d a b = pixels_same a b ∙ zip-take pixel n (drop at m) (drop at d) ∙ ap (take n) (zip-drop pixel at m d)
 
 pub part_length : {A : Type 0} (at end : ℕ) (xs : List A) → at ≤ end → end ≤ length xs → length (take (end - at) (drop at xs)) ≡ end - at
 part_length at end xs h k = length-take-le (end - at) (drop at xs) (omega (arith, length-drop at xs))
 
 -- the block from `at` to `end` is painted, and what was painted before it stays
-pub block_painted : {B : Type 0} (g : Pixel → B) (m : List ℕ) (d : List Float) (at end next : ℕ) (out ys : List B) → at ≤ end → end ≤ length out → end ≡ next → length d ≡ length out → length m ≡ length out
-    → ys ≡ map g (pixels (take (end - at) (drop at m)) (take (end - at) (drop at d))) → take at out ≡ map g (take at (pixels m d)) → take next (put_mid at (end - at) out ys) ≡ map g (take next (pixels m d))
-block_painted {B = B} g m d at end next out ys h k is ld lm e t =
+pub block_painted : {B : Type 0} {m' : List ℕ} {d' : List Float} (g : Pixel → B) (m : List ℕ) (d : List Float) (at end next : ℕ) (out ys : List B) → at ≤ end → end ≤ length out → end ≡ next → length d ≡ length out → length m ≡ length out
+    → (d' ≡ take (end - at) (drop at d)) × (m' ≡ take (end - at) (drop at m)) → ys ≡ map g (pixels m' d') → take at out ≡ map g (take at (pixels m d)) → take next (put_mid at (end - at) out ys) ≡ map g (take next (pixels m d))
+block_painted {B = B} g m d at end next out ys h k is ld lm part e t =
     let px = pixels m d in
     let n = end - at in
-    let block : ys ≡ map g (take n (drop at px)) = e ∙ ap (map g) (pixels_part at n m d) in
+    let block : ys ≡ map g (take n (drop at px)) = e ∙ ap (map g) (pixels_part at n m d part.0 part.1) in
     let size : length ys ≡ n = ap length block ∙ length-map (take n (drop at px)) g ∙ part_length at end px h (omega (arith, pixels-length m d (omega arith))) in
     let from : at + n ≡ next = omega (arith, is) in
     take-put_mid at n out ys next (omega (arith, is, size)) (omega arith) ∙ ap (λ (p : List B). p ++ ys) t ∙ ap (λ (q : List B). map g (take at px) ++ q) block
     ∙ sym (ap (λ (k : ℕ). map g (take k px)) (sym from) ∙ ap (map g) (take-add at n px) ∙ map-append g (take at px) (take n (drop at px)))
 
 -- the block from `at` to the end is painted, and with it all
-pub block_last : {B : Type 0} (g : Pixel → B) (m : List ℕ) (d : List Float) (at end : ℕ) (out ys : List B) → at ≤ end → end ≡ length out → length d ≡ length out → length m ≡ length out
-    → ys ≡ map g (pixels (take (end - at) (drop at m)) (take (end - at) (drop at d))) → take at out ≡ map g (take at (pixels m d)) → put_mid at (end - at) out ys ≡ map g (pixels m d)
-block_last {B = B} g m d at end out ys h is ld lm e t =
+pub block_last : {B : Type 0} {m' : List ℕ} {d' : List Float} (g : Pixel → B) (m : List ℕ) (d : List Float) (at end : ℕ) (out ys : List B) → at ≤ end → end ≡ length out → length d ≡ length out → length m ≡ length out
+    → (d' ≡ take (end - at) (drop at d)) × (m' ≡ take (end - at) (drop at m)) → ys ≡ map g (pixels m' d') → take at out ≡ map g (take at (pixels m d)) → put_mid at (end - at) out ys ≡ map g (pixels m d)
+block_last {B = B} {m' = m'} {d' = d'} g m d at end out ys h is ld lm part e t =
     let px = pixels m d in
     let p = put_mid at (end - at) out ys in
     let long : length px ≡ end = omega (arith, pixels-length m d (omega arith), is) in
-    let size : length ys ≡ end - at = ap length e ∙ length-map (pixels (take (end - at) (drop at m)) (take (end - at) (drop at d))) g ∙ ap length (pixels_part at (end - at) m d) ∙ part_length at end px h (omega (arith, long)) in
+    let size : length ys ≡ end - at = ap length e ∙ length-map (pixels m' d') g ∙ ap length (pixels_part at (end - at) m d part.0 part.1) ∙ part_length at end px h (omega (arith, long)) in
     sym (take-append-drop end p) ∙ ap (λ (zs : List B). take end p ++ zs) (drop-put_mid at (end - at) out ys end (omega arith) (omega arith) size ∙ drop_of_length-le out (omega arith)) ∙ append-nil (take end p)
-    ∙ block_painted g m d at end end out ys h (omega arith) refl ld lm e t ∙ ap (map g) (take_all end px (omega (arith, long)))
+    ∙ block_painted g m d at end end out ys h (omega arith) refl ld lm part e t ∙ ap (map g) (take_all end px (omega (arith, long)))

@@ -3,23 +3,26 @@ use mathlib.Core.Path.{◌≡◌, refl, sym, ap, ◌∙◌}
 use mathlib.Core.Bool.{Bool, true, false, cond}
 use mathlib.Core.List.{List, [], ◌∷◌}
 use Prim.Native.Nat.{ℕ, zero, suc}
-use native.Mathlib.Omega.{arith}
 use lib.ListN.{length}
 use lib.Ieee.{Float}
 use Rattle.std.specs.Prelude.{Option, Some, None}
 use Rattle.types.specs.declared.AutoscaleStrategy.{AutoscaleStrategy}
 use Rattle.types.specs.declared.HistogramStats.{HistogramStats}
 use Rattle.types.specs.declared.Moments.{Moments}
-use Rattle.types.specs.declared.StatisticsAnswer.TheVariants.{Statistics, Refused as StatisticsRefused}
-use Rattle.types.specs.declared.WindowAnswer.{WindowAnswer}
-use Rattle.types.specs.declared.WindowAnswer.TheVariants.{Refused}
-use Rattle.spec.specs.Answer.{Answer, refused, first_of, or_refused}
+use Rattle.std.specs.Prelude.{Result, Ok, Err}
+use Rattle.types.specs.declared.refusal.Refusal.{Refusal}
+use Rattle.types.specs.declared.refusal.Refusal.TheVariants.{Decibels}
+use Rattle.types.specs.Replies.{refusal_number}
+use Rattle.types.specs.declared.WindowFloats.{WindowFloats}
+use Rattle.std.specs.Prelude.{Option}
+use Rattle.spec.specs.Answer.{Answer, refused, done, first_of, or_refused}
 use Rattle.spec.specs.Moments.{no_moments, moments_from}
 use Rattle.spec.specs.Pixels.{Pixel, pixels, valid_of}
 use Rattle.spec.specs.Refusals.{sides_refused, lengths_refused, marks_refused, decibels_refused}
 use Rattle.spec.specs.Strongest.{nowhere}
 use Rattle.spec.specs.Statistics.{summary, summary_of, statistics_of}
-use Rattle.spec.specs.Window.{window_of, picture_window, read_window, autoscale_window}
+use Rattle.spec.specs.Window.{window_floats, window_of, picture_window, read_window, autoscale_window}
+use Rattle.lists.proofs.Replies.{err_by, ok_by}
 use Rattle.raster.proofs.Bands.{first_stays, first_later, first-here, first_not_here, first-none}
 use Rattle.histogram.specs.Extremes.{extremes_from}
 use Rattle.histogram.specs.Passes.{passed, first_pass, extremes}
@@ -63,54 +66,46 @@ pass_count strategy px m e =
     go true = none-count (valid_of px)
     go false = extremes-count (valid_of px)
 
-pub stats-refused : (strategy : AutoscaleStrategy) (px : List Pixel) → pass_for strategy px ≡ None → StatisticsRefused 4 ≡ band_stats strategy px
+pub stats-refused : (strategy : AutoscaleStrategy) (px : List Pixel) → pass_for strategy px ≡ None → Err Decibels ≡ band_stats strategy px
 unfolding band_stats
 stats-refused strategy px e = rw (pass_bad px (moments_for strategy px) (sym (pass_is strategy px) ∙ e))
 
 pub stats-passed : (strategy : AutoscaleStrategy) (px : List Pixel) (m : Moments) (r : HistogramStats) → pass_for strategy px ≡ Some m → r ≡ summary m nowhere (valid_of px) →
-    Statistics r ≡ band_stats strategy px
+    Ok r ≡ band_stats strategy px
 unfolding band_stats
 stats-passed strategy px m r e q =
     let g = pass_good px (moments_for strategy px) m (sym (pass_is strategy px) ∙ e) in
-    ap Statistics (q ∙ ap (λ (t : Moments). summary t nowhere (valid_of px)) (sym g.1) ∙ stats_is strategy px) ∙ rw g.0
+    ap Ok (q ∙ ap (λ (t : Moments). summary t nowhere (valid_of px)) (sym g.1) ∙ stats_is strategy px) ∙ rw g.0
 
 -- ---- the window, by the statistics
-stats_bad : (b : Bool) (s : HistogramStats) (k : ℕ) → cond b (StatisticsRefused 4) (Statistics s) ≡ StatisticsRefused k → b ≡ true
-stats_bad true s k e = refl
-stats_bad false s k e = absurd (let z : ◌≡◌ {A = ℕ} 0 1 = cc in omega arith)
-
-stats_good : (b : Bool) (s r : HistogramStats) → cond b (StatisticsRefused 4) (Statistics s) ≡ Statistics r → (b ≡ false) × (s ≡ r)
-stats_good true s r e = absurd (let z : ◌≡◌ {A = ℕ} 0 1 = cc in omega arith)
-stats_good false s r e = (refl, cc)
-
 module _ (strategy : AutoscaleStrategy) (px : List Pixel) where
-  unread_bad : (k : ℕ) → band_stats strategy px ≡ StatisticsRefused k → decibels_refused px ≡ true
+  unread_bad : (k : Refusal) → band_stats strategy px ≡ Err k → (decibels_refused px ≡ true) × (Decibels ≡ k)
   unfolding band_stats
-  unread_bad k e = stats_bad (decibels_refused px) (stats_for strategy px) k e
+  unread_bad k e = err_by (decibels_refused px) (stats_for strategy px) Decibels k e
 
-  unread_good : (s : HistogramStats) → band_stats strategy px ≡ Statistics s → (decibels_refused px ≡ false) × (stats_for strategy px ≡ s)
+  unread_good : (s : HistogramStats) → band_stats strategy px ≡ Ok s → (decibels_refused px ≡ false) × (stats_for strategy px ≡ s)
   unfolding band_stats
-  unread_good s e = stats_good (decibels_refused px) (stats_for strategy px) s e
+  unread_good s e = ok_by (decibels_refused px) (stats_for strategy px) s Decibels e
 
-  pub window-refused : (k : ℕ) → band_stats strategy px ≡ StatisticsRefused k → Refused 4 ≡ band_window strategy px
+  pub window-refused : (k : Refusal) → band_stats strategy px ≡ Err k → Err k ≡ band_window strategy px
   unfolding band_window or_refused read_window
-  window-refused k e = rw (unread_bad k e)
+  window-refused k e = let h = unread_bad k e in rw (h.0, ← h.1)
 
-  pub window-read : (s : HistogramStats) → band_stats strategy px ≡ Statistics s → (w : WindowAnswer) → w ≡ window_of strategy s → w ≡ band_window strategy px
+  pub window-read : (s : HistogramStats) → band_stats strategy px ≡ Ok s → (w : Option WindowFloats) → w ≡ window_of strategy s → Ok w ≡ band_window strategy px
   unfolding band_window or_refused read_window
   window-read s e w q =
       let g = unread_good s e in
-      q ∙ ap (window_of strategy) (sym g.1) ∙ window_for strategy px ∙ rw g.0
+      ap Ok (q ∙ ap (window_of strategy) (sym g.1) ∙ window_for strategy px) ∙ rw g.0
 
-  pub picture-refused : (copol : Bool) (k : ℕ) → band_stats strategy px ≡ StatisticsRefused k → Refused 4 ≡ band_picture_window strategy copol px
+  pub picture-refused : (copol : Bool) (k : Refusal) → band_stats strategy px ≡ Err k → Err k ≡ band_picture_window strategy copol px
   unfolding band_picture_window
-  picture-refused copol k e = rw (unread_bad k e)
+  picture-refused copol k e = let h = unread_bad k e in rw (h.0, ← h.1)
 
-  pub picture-read : (copol : Bool) (s : HistogramStats) → band_stats strategy px ≡ Statistics s → (w : WindowAnswer) → w ≡ picture_window strategy copol s → w ≡ band_picture_window strategy copol px
+  pub picture-read : (copol : Bool) (s : HistogramStats) → band_stats strategy px ≡ Ok s → (w : Option WindowFloats) → w ≡ picture_window strategy copol s → Ok w ≡ band_picture_window strategy copol px
   unfolding band_picture_window
   picture-read copol s e w q =
       let g = unread_good s e in
-      q ∙ ap (picture_window strategy copol) (sym g.1) ∙ picture_for strategy copol px ∙ rw g.0
+      ap Ok (q ∙ ap (picture_window strategy copol) (sym g.1) ∙ picture_for strategy copol px) ∙ rw g.0
 
 -- ---- the call
 or_refused_lem : {A : Type 0} (k : ℕ) (a : Answer A) → (k ≡ 0 → ⊥) → or_refused k a ≡ refused k
@@ -126,27 +121,27 @@ module _ (strategy : AutoscaleStrategy) (rows cols : ℕ) (m : List ℕ) (d : Li
   px = pixels m d
 
   abbrev read : Answer (List Float)
-  read = read_window (window_of strategy (statistics_of px))
+  read = done (window_floats (window_of strategy (statistics_of px)))
 
   is_call : (k : ℕ) → first_of 1 (sides_refused rows cols ∷ lengths_refused rows cols m d ∷ marks_refused m ∷ decibels_refused px ∷ []) ≡ k → autoscale_window strategy rows cols m d ≡ or_refused k read
   unfolding autoscale_window
   is_call k e = ap (λ (n : ℕ). or_refused n read) e
 
-  pub call_shape : (k : ℕ) → k ≡ first_of 1 shape → (k ≡ 0 → ⊥) → read_window (Refused k) ≡ autoscale_window strategy rows cols m d
+  pub call_shape : (k : Refusal) → refusal_number k ≡ first_of 1 shape → (refusal_number k ≡ 0 → ⊥) → read_window (Err k) ≡ autoscale_window strategy rows cols m d
   unfolding read_window
-  call_shape k e n = sym (is_call k (sym (first_stays 1 shape (decibels_refused px ∷ []) (λ z. n (e ∙ z))) ∙ sym e) ∙ or_refused_lem k read n)
+  call_shape refusal e n = let k = refusal_number refusal in sym (is_call k (sym (first_stays 1 shape (decibels_refused px ∷ []) (λ z. n (e ∙ z))) ∙ sym e) ∙ or_refused_lem k read n)
 
-  pub call_band : first_of 1 shape ≡ 0 → (w : WindowAnswer) → w ≡ band_window strategy px → read_window w ≡ autoscale_window strategy rows cols m d
-  unfolding band_window or_refused read_window
+  pub call_band : first_of 1 shape ≡ 0 → (w : Result (Option WindowFloats) Refusal) → w ≡ band_window strategy px → read_window w ≡ autoscale_window strategy rows cols m d
+  unfolding band_window or_refused read_window refusal_number
   call_band good w e = ap read_window e ∙ go (decibels_refused px) refl
     where
       tests : first_of 1 (sides_refused rows cols ∷ lengths_refused rows cols m d ∷ marks_refused m ∷ decibels_refused px ∷ []) ≡ first_of 4 (decibels_refused px ∷ [])
       tests = first_later 0 shape (decibels_refused px ∷ []) good
 
-      go : (b : Bool) → decibels_refused px ≡ b → read_window (cond b (Refused 4) (window_of strategy (statistics_of px))) ≡ autoscale_window strategy rows cols m d
+      go : (b : Bool) → decibels_refused px ≡ b → read_window (cond b (Err Decibels) (Ok (window_of strategy (statistics_of px)))) ≡ autoscale_window strategy rows cols m d
       go true f = sym (is_call 4 (tests ∙ first-here 4 (decibels_refused px) [] f) ∙ four)
         where
-          four : or_refused 4 read ≡ read_window (Refused 4)
+          four : or_refused 4 read ≡ read_window (Err Decibels)
           four = refl
       go false f = sym (is_call 0 (tests ∙ first_not_here 4 (decibels_refused px) [] f ∙ first-none 5) ∙ none)
         where

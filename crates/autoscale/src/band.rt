@@ -1,10 +1,11 @@
 // The window of a band from its dB and marks. Mean and deviation are worked out only for the strategy that reads them, the place of the maximum for none.
-ghost use Rattle.std.specs.Prelude.{◌≡◌, cond, ◌<◌, ◌^◌, length};
-ghost use Rattle.spec.specs.Pixels.{pixels};
+ghost use Rattle.std.specs.Prelude.{◌≡◌, cond};
+ghost use Rattle.raster.specs.Bands.{pixels_of};
 ghost use Rattle.histogram.specs.Passes.{first_pass, extremes};
 ghost use Rattle.autoscale.specs.Bands.{reads_mean, band_stats, band_window, band_picture_window};
 
-use types::{AutoscaleStrategy, Moments, Place, StatisticsAnswer, WindowAnswer};
+use raster::CountedBand;
+use types::{AutoscaleStrategy, HistogramStats, Moments, Place, Refusal, WindowFloats};
 
 fn reads_mean(strategy: AutoscaleStrategy) -> bool
     ensures { result ≡ reads_mean strategy }
@@ -13,51 +14,45 @@ fn reads_mean(strategy: AutoscaleStrategy) -> bool
 }
 
 // Pass one, as far as the strategy reads it.
-fn strategy_pass(strategy: AutoscaleStrategy, db: &[f64], valid_mask: &[u8]) -> Option<Moments>
-    requires { (length valid_mask.now ≡ length db.now) × (length db.now < 2 ^ 32) }
-    ensures { result ≡ cond (reads_mean strategy) (first_pass (pixels valid_mask.now db.now)) (extremes (pixels valid_mask.now db.now)) }
+fn strategy_pass(strategy: AutoscaleStrategy, band: &CountedBand) -> Option<Moments>
+    ensures { result ≡ cond (reads_mean strategy) (first_pass (pixels_of band.now.pixels)) (extremes (pixels_of band.now.pixels)) }
 {
     if reads_mean(strategy) {
-        histogram::moments::first_pass(db, valid_mask)
+        histogram::moments::first_pass(band)
     } else {
-        histogram::moments::extremes(db, valid_mask)
+        histogram::moments::extremes(band)
     }
 }
 
-// The statistics that the strategy reads, of a band whose sides, lengths and marks are accepted.
-fn band_stats(strategy: AutoscaleStrategy, db: &[f64], valid_mask: &[u8]) -> StatisticsAnswer
-    requires { (length valid_mask.now ≡ length db.now) × (length db.now < 2 ^ 32) }
-    ensures { result ≡ band_stats strategy (pixels valid_mask.now db.now) }
+// The statistics that the strategy reads, of a band whose marks are accepted.
+fn band_stats(strategy: AutoscaleStrategy, band: &CountedBand) -> Result<HistogramStats, Refusal>
+    ensures { result ≡ band_stats strategy (pixels_of band.now.pixels) }
 {
-    let Some(m) = strategy_pass(strategy, db, valid_mask) else {
-        return StatisticsAnswer::Refused(4);
+    let Some(m) = strategy_pass(strategy, band) else {
+        return Err(Refusal::Decibels);
     };
-    StatisticsAnswer::Statistics(histogram::summary(db, valid_mask, m, Place { row: 0, col: 0 }))
+    Ok(histogram::summary(band, m, Place { row: 0, col: 0 }))
 }
 
 // The window of such a band.
-pub fn band_window(strategy: AutoscaleStrategy, db: &[f64], valid_mask: &[u8]) -> WindowAnswer
-    requires { (length valid_mask.now ≡ length db.now) × (length db.now < 2 ^ 32) }
-    ensures { result ≡ band_window strategy (pixels valid_mask.now db.now) }
+pub fn band_window(
+    strategy: AutoscaleStrategy,
+    band: &CountedBand,
+) -> Result<Option<WindowFloats>, Refusal>
+    ensures { result ≡ band_window strategy (pixels_of band.now.pixels) }
 {
-    let StatisticsAnswer::Statistics(stats) = band_stats(strategy, db, valid_mask) else {
-        return WindowAnswer::Refused(4);
-    };
-    crate::window_of(strategy, stats)
+    let stats = band_stats(strategy, band)?;
+    Ok(crate::window_of(strategy, stats))
 }
 
 // The window that a picture paints such a band with.
 pub fn band_picture_window(
     strategy: AutoscaleStrategy,
     is_copol: bool,
-    db: &[f64],
-    valid_mask: &[u8],
-) -> WindowAnswer
-    requires { (length valid_mask.now ≡ length db.now) × (length db.now < 2 ^ 32) }
-    ensures { result ≡ band_picture_window strategy is_copol (pixels valid_mask.now db.now) }
+    band: &CountedBand,
+) -> Result<Option<WindowFloats>, Refusal>
+    ensures { result ≡ band_picture_window strategy is_copol (pixels_of band.now.pixels) }
 {
-    let StatisticsAnswer::Statistics(stats) = band_stats(strategy, db, valid_mask) else {
-        return WindowAnswer::Refused(4);
-    };
-    crate::picture_window(strategy, is_copol, stats)
+    let stats = band_stats(strategy, band)?;
+    Ok(crate::picture_window(strategy, is_copol, stats))
 }

@@ -81,7 +81,7 @@ fn standard_clip(stats: HistogramStats) -> Clip
     }
 }
 
-#[tactic(auto, unfolding(spec::specs::Window::robust_clip, spec::specs::Window::outlier))]
+#[tactic(auto, unfolding(spec::specs::Window::robust_clip, spec::specs::Window::outlier, spec::specs::Window::valid_range))]
 fn robust_clip(stats: HistogramStats) -> Clip
     ensures { result ≡ Window.robust_clip stats }
 {
@@ -89,11 +89,7 @@ fn robust_clip(stats: HistogramStats) -> Clip
     let outlier_threshold = 2.5 * iqr;
     let low = numeric::max_f64(stats.p25 - outlier_threshold, stats.p01);
     let high = numeric::min_f64(stats.p75 + outlier_threshold, stats.p99);
-    Clip {
-        low: numeric::max_f64(low, stats.min_db),
-        high: numeric::min_f64(high, stats.max_db),
-        gamma: 1.0,
-    }
+    valid_range(stats, low, high, 1.0)
 }
 
 #[tactic(auto, unfolding(spec::specs::Window::skew_factor))]

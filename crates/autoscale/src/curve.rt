@@ -1,9 +1,11 @@
 // Painting at 8 bits under a gamma of 0.8, 0.9 or 1.1: a pixel's value is read off the thresholds of that gamma. As in paint.rt a dB is read where its
-// mark is not 0 and nowhere else; blocks whose pixels are all valid are normalised first, so that the quotients are taken two at a time.
-// Kept: blocks of their own beside paint.rt's. They differ in a step and in a lent list, not in a type alone, and a trait for that is no plainer.
-ghost use Rattle.std.specs.Prelude.{◌≡◌, map, ◌≤◌, ◌<◌, length, get_or};
+// mark is not 0 and nowhere else; blocks whose pixels are all valid are normalised first, into a lent list.
+// Kept: `paint_block_by` and `paint_blocks_by` beside paint.rt's `paint_block` and `paint_blocks`. They hand on a lent list besides, so one function for both
+// would be told by a closure that writes to two lists, and say what each call leaves there: more than the loop that it saves. The clauses are paint.rt's,
+// for its reason.
+ghost use Rattle.std.specs.Prelude.{◌≡◌, map, length};
 ghost use Rattle.spec.specs.Gamma.{curved};
-ghost use Rattle.spec.specs.Pixels.{pixels};
+ghost use Rattle.raster.specs.Bands.{pixels_of};
 ghost use Rattle.spec.specs.Value.{normalized, paint};
 ghost use Rattle.gamma.specs.Curved.{number};
 ghost use Rattle.gamma.specs.Thresholds.{Values};
@@ -11,25 +13,25 @@ ghost use Rattle.autoscale.specs.Painted.{AllValid, CurveValues, CurvePainted};
 
 use crate::paint;
 use gamma::{Curve, CurvedGamma};
+use raster::Band;
 use types::WindowFloats;
 
 // The value of a dB by the curve.
 fn curve_value(v: f64, window: WindowFloats, curve: &Curve) -> u8
-    ensures { Values curve.now.thresholds (normalized window.low window.high window.range v) result }
+    ensures { Values curve.now.thresholds.now (normalized window.low window.high window.range v) result }
 {
     let t = numeric::normalized(v, window.low, window.high, window.range);
     curve.value(t)
 }
 
 // Pixels that are all valid, normalised.
-fn normalize_valid(db: &[f64], valid_mask: &[u8], window: WindowFloats, normal: &mut [f64])
-    requires fact_1 { length db.now ≡ length normal.old }
-    requires fact_2 { length valid_mask.now ≡ length normal.old }
-    requires fact_3 { AllValid valid_mask.now }
-    ensures { normal.new ≡ map (normalized window.low window.high window.range) db.now }
+fn normalize_valid(band: &Band, window: WindowFloats, normal: &mut [f64])
+    requires fact_1 { length band.now.db.now ≡ length normal.old }
+    requires fact_2 { AllValid band.now.valid_mask.now }
+    ensures { normal.new ≡ map (normalized window.low window.high window.range) band.now.db.now }
 {
     for (i, place) in normal.iter_mut().enumerate() {
-        let v = paint::valid_db(db, valid_mask, i);
+        let v = paint::valid_db(band, i);
         *place = numeric::normalized(v, window.low, window.high, window.range);
     }
 }
@@ -37,7 +39,7 @@ fn normalize_valid(db: &[f64], valid_mask: &[u8], window: WindowFloats, normal: 
 // The values of normalised pixels.
 fn values_of(normal: &[f64], curve: &Curve, out: &mut [u8])
     requires { length normal.now ≡ length out.old }
-    ensures { CurveValues curve.now.thresholds normal.now out.new }
+    ensures { CurveValues curve.now.thresholds.now normal.now out.new }
 {
     for (i, t) in normal.iter().enumerate() {
         out[i] = curve.value(*t);
@@ -46,64 +48,37 @@ fn values_of(normal: &[f64], curve: &Curve, out: &mut [u8])
 
 // Pixels that are all valid, by way of a lent list.
 fn paint_valid_by(
-    db: &[f64],
-    valid_mask: &[u8],
+    band: &Band,
     window: WindowFloats,
     curve: &Curve,
     normal: &mut [f64],
     out: &mut [u8],
 )
-    requires fact_1 { length db.now ≡ length out.old }
-    requires fact_2 { length valid_mask.now ≡ length out.old }
-    requires fact_3 { length normal.old ≡ length out.old }
-    requires fact_4 { AllValid valid_mask.now }
-    ensures { CurvePainted curve.now.thresholds window (pixels valid_mask.now db.now) out.new }
+    requires fact_1 { length band.now.db.now ≡ length out.old }
+    requires fact_2 { length normal.old ≡ length out.old }
+    requires fact_3 { AllValid band.now.valid_mask.now }
+    ensures { CurvePainted curve.now.thresholds.now window (pixels_of band.now) out.new }
 {
-    normalize_valid(db, valid_mask, window, normal);
+    normalize_valid(band, window, normal);
     values_of(normal, curve, out);
-}
-
-// Pixels of which `first` is valid, without a branch.
-fn paint_some_by(
-    db: &[f64],
-    valid_mask: &[u8],
-    first: usize,
-    window: WindowFloats,
-    curve: &Curve,
-    out: &mut [u8],
-)
-    requires fact_1 { length db.now ≡ length out.old }
-    requires fact_2 { length valid_mask.now ≡ length out.old }
-    requires fact_3 { (first < length out.old) × (0 < get_or valid_mask.now first 0) }
-    ensures { CurvePainted curve.now.thresholds window (pixels valid_mask.now db.now) out.new }
-{
-    let mut place = first;
-    for (i, mark) in valid_mask.iter().enumerate() {
-        place = paint::read_place(*mark, i, place);
-        let v = paint::valid_db(db, valid_mask, place);
-        let value = curve_value(v, window, curve);
-        out[i] = paint::masked(*mark, value);
-    }
 }
 
 // A block, with a lent list as long.
 fn paint_block_by(
-    db: &[f64],
-    valid_mask: &[u8],
+    band: &Band,
     window: WindowFloats,
     curve: &Curve,
     normal: &mut [f64],
     out: &mut [u8],
 )
-    requires fact_1 { length db.now ≡ length out.old }
-    requires fact_2 { length valid_mask.now ≡ length out.old }
-    requires fact_3 { length normal.old ≡ length out.old }
-    ensures { CurvePainted curve.now.thresholds window (pixels valid_mask.now db.now) out.new }
+    requires fact_1 { length band.now.db.now ≡ length out.old }
+    requires fact_2 { length normal.old ≡ length out.old }
+    ensures { CurvePainted curve.now.thresholds.now window (pixels_of band.now) out.new }
 {
-    if paint::least_mark(valid_mask) != 0 {
-        paint_valid_by(db, valid_mask, window, curve, normal, out);
-    } else if let Some(first) = paint::first_valid(valid_mask) {
-        paint_some_by(db, valid_mask, first, window, curve, out);
+    if paint::least_mark(band.valid_mask) != 0 {
+        paint_valid_by(band, window, curve, normal, out);
+    } else if let Some(first) = paint::first_valid(band.valid_mask) {
+        paint::paint_some(band, first, |v| curve_value(v, window, curve), out);
     } else {
         out.fill(0);
     }
@@ -111,23 +86,20 @@ fn paint_block_by(
 
 // A band by the thresholds, block by block.
 fn paint_blocks_by(
-    db: &[f64],
-    valid_mask: &[u8],
+    band: &Band,
     window: WindowFloats,
     curve: &Curve,
     normal: &mut [f64],
     out: &mut [u8],
 )
-    requires fact_1 { length db.now ≡ length out.old }
-    requires fact_2 { length valid_mask.now ≡ length out.old }
-    requires fact_3 { length normal.old ≡ 128 }
-    ensures { CurvePainted curve.now.thresholds window (pixels valid_mask.now db.now) out.new }
+    requires fact_1 { length band.now.db.now ≡ length out.old }
+    requires fact_2 { length normal.old ≡ 128 }
+    ensures { CurvePainted curve.now.thresholds.now window (pixels_of band.now) out.new }
 {
     for at in (0..out.len()).step_by(128) {
         let end = paint::block_end(at, out.len());
         paint_block_by(
-            &db[at..end],
-            &valid_mask[at..end],
+            &band.part(at, end),
             window,
             curve,
             &mut normal[0..end - at],
@@ -137,18 +109,11 @@ fn paint_blocks_by(
 }
 
 // A band under one of the three gammas.
-pub(crate) fn paint_curve_u8(
-    db: &[f64],
-    valid_mask: &[u8],
-    window: WindowFloats,
-    gamma: CurvedGamma,
-    out: &mut [u8],
-)
-    requires fact_1 { length db.now ≡ length out.old }
-    requires fact_2 { length valid_mask.now ≡ length out.old }
-    ensures { out.new ≡ map (paint (curved (number gamma) window.low window.high window.range)) (pixels valid_mask.now db.now) }
+pub(crate) fn paint_curve_u8(band: &Band, window: WindowFloats, gamma: CurvedGamma, out: &mut [u8])
+    requires { length band.now.db.now ≡ length out.old }
+    ensures { out.new ≡ map (paint (curved (number gamma) window.low window.high window.range)) (pixels_of band.now) }
 {
     let curve = Curve::new(gamma);
     let mut normal: [f64; 128] = [0.0; 128];
-    paint_blocks_by(db, valid_mask, window, &curve, &mut normal, out);
+    paint_blocks_by(band, window, &curve, &mut normal, out);
 }

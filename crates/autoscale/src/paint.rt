@@ -1,18 +1,20 @@
 // The painting of valid pixels between the ends of a window, outside Clahe, each float step in the source's order; other gammas: curve.rt. A dB is
 // read where its mark is not 0 and nowhere else (`valid_db`): blocks whose pixels are all valid go without a test, and in the others an invalid pixel
 // works on a valid one's dB.
+// Kept: that an output is as long as its band is one clause of each function here; a struct of band and output would be made again for each block
+// and say no more than that clause. That a block's marks are all valid, or that one is, is asked by the two functions alone that a block goes to.
 ghost use Rattle.std.specs.Prelude.{◌≡◌, ◌==◌, not, cond, map, position, replicate, ◌+◌, ◌<◌, min, eqb, length, get_or};
 ghost use Rattle.std.specs.Float.{nan};
-ghost use Rattle.spec.specs.Lists.{lowest, highest};
-ghost use Rattle.spec.specs.Pixels.{pixels};
+ghost use Rattle.spec.specs.Lists.{lowest};
+ghost use Rattle.raster.specs.Bands.{pixels_of};
 ghost use Rattle.spec.specs.Gamma.{U8, full_of, grey_value};
 ghost use Rattle.spec.specs.Value.{value_of, paint};
-ghost use Rattle.autoscale.specs.Painted.{AllValid, straight};
+ghost use Rattle.autoscale.specs.Painted.{AllValid, PaintedBy, straight};
 
 use crate::curve;
 use gamma::CurvedGamma;
 use numeric::depth::Depth;
-use stretch::Ends;
+use raster::Band;
 use types::WindowFloats;
 
 // Times the full value, held to 0..that, truncated.
@@ -32,14 +34,15 @@ pub(crate) fn masked<D: Depth>(mark: u8, value: D) -> D
 }
 
 // The dB of a valid pixel: the one place where painting reads one.
-pub(crate) fn valid_db(db: &[f64], valid_mask: &[u8], i: usize) -> f64
-    requires { (i < length db.now) × (0 < get_or valid_mask.now i 0) }
-    ensures { result ≡ get_or db.now i nan }
+pub(crate) fn valid_db(band: &Band, i: usize) -> f64
+    requires { (i < length band.now.db.now) × (0 < get_or band.now.valid_mask.now i 0) }
+    ensures { result ≡ get_or band.now.db.now i nan }
 {
-    db[i]
+    band.db[i]
 }
 
 // The least mark, 255 if there is none.
+// Kept: with a `fold` grey at 8 bits under 1.1 takes 3.83 ms, with this loop 3.60 (side 512, 5 of 100 pixels invalid, medians of 60).
 pub(crate) fn least_mark(valid_mask: &[u8]) -> u8
     ensures { result ≡ lowest 255 valid_mask.now }
 {
@@ -73,39 +76,38 @@ pub(crate) fn block_end(at: usize, n: usize) -> usize
 }
 
 // Pixels that are all valid.
-fn paint_valid<D: Depth>(db: &[f64], valid_mask: &[u8], window: WindowFloats, out: &mut [D])
-    requires fact_1 { length db.now ≡ length out.old }
-    requires fact_2 { length valid_mask.now ≡ length out.old }
-    requires fact_3 { AllValid valid_mask.now }
-    ensures { out.new ≡ map (straight D.of D.depth window) (pixels valid_mask.now db.now) }
+fn paint_valid<D: Depth>(band: &Band, window: WindowFloats, out: &mut [D])
+    requires fact_1 { length band.now.db.now ≡ length out.old }
+    requires fact_2 { AllValid band.now.valid_mask.now }
+    ensures { out.new ≡ map (straight D.of D.depth window) (pixels_of band.now) }
 {
     for (i, value) in out.iter_mut().enumerate() {
-        *value = value_of(valid_db(db, valid_mask, i), window);
+        *value = value_of(valid_db(band, i), window);
     }
 }
 
-// Pixels of which `first` is valid, without a branch.
-fn paint_some<D: Depth>(
-    db: &[f64],
-    valid_mask: &[u8],
+// Pixels of which `first` is valid, without a branch, by the value of a dB.
+pub(crate) fn paint_some<D: Depth, F: Fn(f64) -> D>(
+    band: &Band,
     first: usize,
-    window: WindowFloats,
+    value: F,
     out: &mut [D],
 )
-    requires fact_1 { length db.now ≡ length out.old }
-    requires fact_2 { length valid_mask.now ≡ length out.old }
-    requires fact_3 { (first < length out.old) × (0 < get_or valid_mask.now first 0) }
-    ensures { out.new ≡ map (straight D.of D.depth window) (pixels valid_mask.now db.now) }
+    requires fact_1 { length band.now.db.now ≡ length out.old }
+    requires fact_2 { (first < length out.old) × (0 < get_or band.now.valid_mask.now first 0) }
+    requires fact_3 { F.IsAlwaysCallable value }
+    ensures { PaintedBy D.of (F.post value) (pixels_of band.now) out.new }
 {
     let mut place = first;
-    for (i, mark) in valid_mask.iter().enumerate() {
+    for (i, mark) in band.valid_mask.iter().enumerate() {
         place = read_place(*mark, i, place);
-        let value = value_of(valid_db(db, valid_mask, place), window);
-        out[i] = masked(*mark, value);
+        let painted = value(valid_db(band, place));
+        out[i] = masked(*mark, painted);
     }
 }
 
 // Pixels of which none is valid.
+// Kept: `out.fill(D::black())` was left with `is_infallible` of that value: nothing says of a `Depth` that its clone cannot fail.
 fn blacken<D: Depth>(out: &mut [D])
     ensures { out.new ≡ replicate (length out.old) (D.of 0) }
 {
@@ -115,60 +117,37 @@ fn blacken<D: Depth>(out: &mut [D])
 }
 
 // A block.
-fn paint_block<D: Depth>(db: &[f64], valid_mask: &[u8], window: WindowFloats, out: &mut [D])
-    requires fact_1 { length db.now ≡ length out.old }
-    requires fact_2 { length valid_mask.now ≡ length out.old }
-    ensures { out.new ≡ map (straight D.of D.depth window) (pixels valid_mask.now db.now) }
+fn paint_block<D: Depth>(band: &Band, window: WindowFloats, out: &mut [D])
+    requires { length band.now.db.now ≡ length out.old }
+    ensures { out.new ≡ map (straight D.of D.depth window) (pixels_of band.now) }
 {
-    if least_mark(valid_mask) != 0 {
-        paint_valid(db, valid_mask, window, out);
-    } else if let Some(first) = first_valid(valid_mask) {
-        paint_some(db, valid_mask, first, window, out);
+    if least_mark(band.valid_mask) != 0 {
+        paint_valid(band, window, out);
+    } else if let Some(first) = first_valid(band.valid_mask) {
+        paint_some(band, first, |v| value_of(v, window), out);
     } else {
         blacken(out);
     }
 }
 
 // A band by the straight line, block by block.
-pub(crate) fn paint_blocks<D: Depth>(
-    db: &[f64],
-    valid_mask: &[u8],
-    window: WindowFloats,
-    out: &mut [D],
-)
-    requires fact_1 { length db.now ≡ length out.old }
-    requires fact_2 { length valid_mask.now ≡ length out.old }
-    ensures { out.new ≡ map (straight D.of D.depth window) (pixels valid_mask.now db.now) }
+pub(crate) fn paint_blocks<D: Depth>(band: &Band, window: WindowFloats, out: &mut [D])
+    requires { length band.now.db.now ≡ length out.old }
+    ensures { out.new ≡ map (straight D.of D.depth window) (pixels_of band.now) }
 {
     for at in (0..out.len()).step_by(128) {
         let end = block_end(at, out.len());
-        paint_block(
-            &db[at..end],
-            &valid_mask[at..end],
-            window,
-            &mut out[at..end],
-        );
+        paint_block(&band.part(at, end), window, &mut out[at..end]);
     }
 }
 
 // A band at 8 bits under the window's gamma.
-fn paint_window_u8(db: &[f64], valid_mask: &[u8], window: WindowFloats, out: &mut [u8])
-    requires fact_1 { length db.now ≡ length out.old }
-    requires fact_2 { length valid_mask.now ≡ length out.old }
-    ensures { out.new ≡ map (paint (grey_value U8 window.gamma window.low window.high window.range)) (pixels valid_mask.now db.now) }
+pub(crate) fn paint_u8(band: &Band, window: WindowFloats, out: &mut [u8])
+    requires { length band.now.db.now ≡ length out.old }
+    ensures { out.new ≡ map (paint (grey_value U8 window.gamma window.low window.high window.range)) (pixels_of band.now) }
 {
     match CurvedGamma::of(window.gamma) {
-        Some(gamma) => curve::paint_curve_u8(db, valid_mask, window, gamma, out),
-        None => paint_blocks(db, valid_mask, window, out),
+        Some(gamma) => curve::paint_curve_u8(band, window, gamma, out),
+        None => paint_blocks(band, window, out),
     }
-}
-
-// A band at 8 bits, with the least and the greatest of the bytes.
-pub(crate) fn paint_u8(db: &[f64], valid_mask: &[u8], window: WindowFloats, out: &mut [u8]) -> Ends
-    requires { (length db.now ≡ length out.old) × (length valid_mask.now ≡ length out.old) }
-    ensures out_after { out.new ≡ map (paint (grey_value U8 window.gamma window.low window.high window.range)) (pixels valid_mask.now db.now) }
-    ensures lo_value { (result.lo ≡ lowest 65535 out.new) × (result.hi ≡ highest 0 out.new) }
-{
-    paint_window_u8(db, valid_mask, window, out);
-    stretch::ends_of_bytes(out)
 }

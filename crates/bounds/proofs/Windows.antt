@@ -10,8 +10,8 @@ use Rattle.types.specs.declared.Clip.{Clip}
 use Rattle.types.specs.declared.HistogramStats.{HistogramStats}
 use Rattle.spec.specs.Floats.{zero64, half64, one64, two64, of_count, max_float, abs_float}
 use Rattle.spec.specs.Window.{between, valid_range, low_contrast_clip, outlier, heavy_tailed_clip, high_range_clip, normal_clip, standard_clip, robust_clip, skew_factor, tail_heaviness, adaptive_clip, tamed_clip, choose_clip, opened, window_of, picture_window, gamma08, gamma09, gamma11}
-use Rattle.types.specs.declared.WindowAnswer.{WindowAnswer}
-use Rattle.types.specs.declared.WindowAnswer.TheVariants.{Blank}
+use Rattle.types.specs.declared.WindowFloats.{WindowFloats}
+use Rattle.std.specs.Prelude.{Option, Some, None}
 use Rattle.spec.specs.Strategies.{is_tamed}
 use Rattle.numeric.proofs.Order.{Number}
 use Rattle.numeric.proofs.Picks.{above-max}
@@ -166,7 +166,7 @@ one_is : one64 ≡ of_count 1
 unfolding of_bits of_int round
 one_is = refl
 
-limited_window : (c : Clip) → Limited 14000 c → BoundedAnswer (opened c)
+limited_window : (c : Clip) → Limited 14000 c → BoundedAnswer (Some (opened c))
 unfolding opened
 limited_window c l =
     let range = max_float (sub binary64 c.high c.low) one64 in
@@ -178,16 +178,16 @@ limited_window c l =
       range_least = subst (λ (z : Float). T (le z range)) one_is (above-max (sub binary64 c.high c.low) one64 one_number);
     }
 
-blank_or : (b : Bool) (w : WindowAnswer) → BoundedAnswer w → BoundedAnswer (cond b Blank w)
+blank_or : (b : Bool) (w : Option WindowFloats) → BoundedAnswer w → BoundedAnswer (cond b None w)
 blank_or true w o = tt
 blank_or false w o = o
 
 pub window_bounded : (strategy : AutoscaleStrategy) (s : HistogramStats) → Bounded s → BoundedAnswer (window_of strategy s)
 unfolding window_of
-window_bounded strategy s b = blank_or (eqb s.valid_count 0) (opened (choose_clip strategy s)) (limited_window (choose_clip strategy s) (choose_clip_limited s b strategy))
+window_bounded strategy s b = blank_or (eqb s.valid_count 0) (Some (opened (choose_clip strategy s))) (limited_window (choose_clip strategy s) (choose_clip_limited s b strategy))
 
 pub picture-window_bounded : (strategy : AutoscaleStrategy) (copol : Bool) (s : HistogramStats) → Bounded s → BoundedAnswer (picture_window strategy copol s)
 unfolding picture_window
 picture-window_bounded strategy copol s b =
     let c = cond (is_tamed strategy) (tamed_clip copol s) (choose_clip strategy s) in
-    blank_or (eqb s.valid_count 0) (opened c) (limited_window c (either 14000 (is_tamed strategy) _ _ (tamed_clip_limited s b copol) (choose_clip_limited s b strategy)))
+    blank_or (eqb s.valid_count 0) (Some (opened c)) (limited_window c (either 14000 (is_tamed strategy) _ _ (tamed_clip_limited s b copol) (choose_clip_limited s b strategy)))

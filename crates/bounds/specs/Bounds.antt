@@ -4,8 +4,8 @@ use Rattle.std.specs.Float.{nan, binary64}
 use Rattle.std.specs.Float.Ieee.{le, neg, fits}
 use Rattle.types.specs.declared.AutoscaleStrategy.{AutoscaleStrategy}
 use Rattle.types.specs.declared.HistogramStats.{HistogramStats}
-use Rattle.types.specs.declared.WindowAnswer.{WindowAnswer}
-use Rattle.types.specs.declared.WindowAnswer.TheVariants.{Window, Blank, Refused}
+use Rattle.types.specs.declared.WindowFloats.{WindowFloats}
+use Rattle.std.specs.Prelude.{Option, Some, None}
 use Rattle.spec.specs.Floats.{of_count}
 use Rattle.spec.specs.Pixels.{pixels}
 use Rattle.spec.specs.Refusals.{decibels_refused}
@@ -63,10 +63,9 @@ pub record BoundedWindow (low high range : Float) : Type 0 where
   pub range_least : T (le (of_count 1) range)
 
 -- a blank window or a refusal has no floats
-abbrev pub BoundedAnswer : WindowAnswer → Type 0
-BoundedAnswer (Window low high range gamma) = BoundedWindow low high range
-BoundedAnswer Blank = Unit
-BoundedAnswer (Refused k) = Unit
+abbrev pub BoundedAnswer : Option WindowFloats → Type 0
+BoundedAnswer (Some w) = BoundedWindow w.low w.high w.range
+BoundedAnswer None = Unit
 
 -- low, high and range of every window are bounded, and the range is at least 1: in every strategy, in the window call and in a picture, for both polarisations
 unfoldable pub WindowsBounded : Type 0

@@ -5,6 +5,8 @@ use native.Mathlib.Decide.{dec_lt}
 use native.Mathlib.Nat.{mul-add-div_right, mul-add-mod_self_right, div-eq_of_lt}
 use lib.Ieee.{Float, nan, binary64, mul, to_unsigned}
 use lib.ListN.{length-map}
+use Rattle.raster.specs.declared.band.Band.{Band}
+use Rattle.raster.specs.declared.band.Raster.{Raster}
 use Rattle.types.specs.declared.TilePosition.{TilePosition}
 use Rattle.types.specs.declared.WindowFloats.{WindowFloats}
 use Rattle.spec.specs.Floats.{zero64, one64, clamp_float}
@@ -13,11 +15,11 @@ use Rattle.spec.specs.Pixels.{Pixel, off, on, pixel, pixels}
 use Rattle.spec.specs.Clahe.{tile_side, tile_position, level_of, sum_at, sample, equalised, tile_tables, clahe_values}
 use Rattle.clahe.specs.declared.columns.Column.{Column}
 use Rattle.clahe.specs.Work.{Holds, Among, sum_in, next_tile, sampled}
-use Rattle.clahe.specs.Band.{normal_in, band, Raster}
+use Rattle.clahe.specs.Band.{normal_in, normal_pixels}
 use Rattle.clahe.specs.Paint.{shade, column_of, columns_of, shade_at, row_shades, place_shade, shades}
 use Rattle.clahe.proofs.Whole.{times_most, next_times}
 use Rattle.clahe.proofs.Cells.{places-length, places-at, map_at}
-use Rattle.clahe.proofs.Parts.{part, part_length, part_at, zip-at, zip_length, put-before, put-inside}
+use Rattle.clahe.proofs.Parts.{part, Part, part_length, part_at, band_length, zip-at, zip_length, put-before, put-inside}
 use Rattle.clahe.proofs.Positions.{among, among_of, second_next}
 
 -- ---- the row and the column of a place
@@ -33,120 +35,145 @@ nth n k h = sym (map_at (λ i. i) 0 0 (places n) k (omega (arith, places-length 
 
 -- ---- a pixel of a band
 
-module _ (w : WindowFloats) (marks : List ℕ) (db : List Float) where
-  band-length : length marks ≡ length db → length (band w marks db) ≡ length db
-  unfolding pixels
-  band-length e = length-map (pixels marks db) (normal_in w) ∙ zip_length pixel marks db e
+module _ (w : WindowFloats) (band : Band) where
+  abbrev marks : List ℕ
+  marks = band.valid_mask.now
 
-  band-at : (i : ℕ) → length marks ≡ length db → i < length db → get_or (band w marks db) i off ≡ normal_in w (pixel (get_or marks i 0) (get_or db i nan))
+  abbrev db : List Float
+  db = band.db.now
+
+  normal_pixels-length : length (normal_pixels w band) ≡ length db
   unfolding pixels
-  band-at i e h =
-      map_at (normal_in w) off off (pixels marks db) i (omega (arith, zip_length pixel marks db e))
-      ∙ ap (normal_in w) (zip-at pixel 0 nan off marks db i (omega arith) h)
+  normal_pixels-length = length-map (pixels marks db) (normal_in w) ∙ zip_length pixel marks db band.alike
+
+  normal_pixels-at : (i : ℕ) → i < length db → get_or (normal_pixels w band) i off ≡ normal_in w (pixel (get_or marks i 0) (get_or db i nan))
+  unfolding pixels
+  normal_pixels-at i h =
+      map_at (normal_in w) off off (pixels marks db) i (omega (arith, zip_length pixel marks db band.alike))
+      ∙ ap (normal_in w) (zip-at pixel 0 nan off marks db i (omega (arith, band.alike)) h)
 
 -- ---- row by row
 
 -- row r lies in the raster, which has no more than 4,096 by 4,096 pixels
-abbrev pub Fits : ℕ → ℕ → List ℕ → List Float → ℕ → Type 0
-Fits rows cols marks db r = (r * cols + cols ≤ rows * cols) × (rows * cols ≤ 16777216) × (length marks ≡ rows * cols) × (length db ≡ rows * cols)
+abbrev pub Fits : Raster → ℕ → Type 0
+Fits s r =
+    (r * s.sides.cols + s.sides.cols ≤ s.sides.rows * s.sides.cols) × (s.sides.rows * s.sides.cols ≤ 16777216)
+    × (length s.band.valid_mask.now ≡ s.sides.rows * s.sides.cols) × (length s.band.db.now ≡ s.sides.rows * s.sides.cols)
 
-module _ {rows cols : ℕ} {marks : List ℕ} {db : List Float} (s : Raster rows cols marks db) (r : ℕ) (h : r < rows) where
-  pub row_fits : Fits rows cols marks db r
-  row_fits = (
-    omega (arith, next_times r cols, mul-le-mul_right {m = r + 1} {n = rows} cols (omega arith)),
-    times_most rows cols 4096 4096 s.tall s.wide,
-    s.marks-length,
-    s.db_length,
-  )
+module _ (s : Raster) where
+  abbrev Rows : ℕ
+  Rows = s.sides.rows
 
-  row_length : {A : Type 0} (xs : List A) → length xs ≡ rows * cols → length (part (r * cols) cols xs) ≡ cols
-  row_length xs e = part_length (r * cols) cols xs (omega (arith, row_fits))
+  abbrev Cols : ℕ
+  Cols = s.sides.cols
 
-  -- what the function of a row asks
-  pub row_ready : {A : Type 0} (side : ℕ) (y : TilePosition) (xs : List Column) (work : List Float) (out : List A) → length out ≡ rows * cols → length work ≡ 16384 → y ≡ tile_position side r
-      → xs ≡ columns_of cols
-      → ((length (part (r * cols) cols db) ≤ 4096) × (length (part (r * cols) cols marks) ≡ length (part (r * cols) cols db)) × (length (part (r * cols) cols out) ≡ length (part (r * cols) cols db)))
-      × (((length work ≡ 16384) × Among y) × (xs ≡ columns_of (length (part (r * cols) cols db))))
-  row_ready side y xs work out e l p k =
-      let d = row_length db s.db_length in (
-        (omega (arith, d, s.wide), row_length marks s.marks-length ∙ sym d, row_length out e ∙ sym d),
-        ((l, among_of side r y p), k ∙ ap columns_of (sym d)),
+  module _ (r : ℕ) where
+    -- a band of the pixels of row r
+    abbrev pub Row : Band → Type 0
+    Row = Part (r * Cols) Cols s.band
+
+    module _ (h : r < Rows) where
+      pub row_fits : Fits s r
+      row_fits = (
+        omega (arith, next_times r Cols, mul-le-mul_right {m = r + 1} {n = Rows} Cols (omega arith)),
+        times_most Rows Cols 4096 4096 s.small.0 s.small.1,
+        s.band.alike ∙ s.sized,
+        s.sized,
       )
 
-module _ {A : Type 0} (of : ℕ → A) (full : Float) (work : List Float) (rows cols : ℕ) (w : WindowFloats) (marks : List ℕ) (db : List Float) where
-  abbrev Px : List Pixel
-  Px = band w marks db
+      module _ (row : Band) (q : Row row) where
+        row_length : length row.db.now ≡ Cols
+        row_length = band_length (r * Cols) Cols s.band row q (omega (arith, row_fits))
 
-  -- the value of the pixel at a place
-  abbrev Value : ℕ → A
-  Value i = of (place_shade full work rows cols i (get_or Px i off))
+        -- what the function of a row asks
+        pub row_ready : {A : Type 0} (side : ℕ) (y : TilePosition) (xs : List Column) (out : List A) → length out ≡ Rows * Cols → y ≡ tile_position side r
+            → xs ≡ columns_of Cols
+            → ((length row.db.now ≤ 4096) × (length (part (r * Cols) Cols out) ≡ length row.db.now))
+            × Among y × (xs ≡ columns_of (length row.db.now))
+        row_ready side y xs out e p k = (
+          (omega (arith, row_length, s.small.1), part_length (r * Cols) Cols out (omega (arith, e, row_fits)) ∙ sym row_length),
+          among_of side r y p,
+          k ∙ ap columns_of (sym row_length),
+        )
 
-  -- the rows before r have their values
-  abbrev pub Above : ℕ → List A → Type 0
-  Above r out = (i : ℕ) → i < r * cols → get_or out i (of 0) ≡ Value i
+  module _ {A : Type 0} (of : ℕ → A) (full : Float) (work : List Float) (w : WindowFloats) where
+    abbrev Px : List Pixel
+    Px = normal_pixels w s.band
 
-  module _ (s : Raster rows cols marks db) where
-    module _ (r : ℕ) (h : r < rows) (y : TilePosition) (e : y ≡ tile_position (tile_side rows) r) where
+    -- the value of the pixel at a place
+    abbrev Value : ℕ → A
+    Value i = of (place_shade full work Rows Cols i (get_or Px i off))
+
+    -- the rows before r have their values
+    abbrev pub Above : ℕ → List A → Type 0
+    Above r out = (i : ℕ) → i < r * Cols → get_or out i (of 0) ≡ Value i
+
+    module _ (r : ℕ) (h : r < Rows) (y : TilePosition) (e : y ≡ tile_position (tile_side Rows) r) (row : Band) (b : Row r row) where
       abbrev value : ℕ → ℕ
-      value = shade_at full work y w (part (r * cols) cols marks) (part (r * cols) cols db)
+      value = shade_at full work y w row
 
-      row_value : (c : ℕ) → c < cols → value c ≡ place_shade full work rows cols (r * cols + c) (get_or Px (r * cols + c) off)
+      abbrev count : ℕ
+      count = length row.db.now
+
+      row_size : count ≡ Cols
+      row_size = row_length r h row b
+
+      row_value : (c : ℕ) → c < Cols → value c ≡ place_shade full work Rows Cols (r * Cols + c) (get_or Px (r * Cols + c) off)
       row_value c g =
           cc (
-            e ∙ ap (tile_position (tile_side rows)) (sym (row_of r c cols g)),
-            row_length s r h db s.db_length,
-            column_of_lem r c cols g,
-            part_at (r * cols) cols 0 marks c g,
-            part_at (r * cols) cols nan db c g,
-            band-at w marks db (r * cols + c) (s.marks-length ∙ sym s.db_length) (omega (arith, row_fits s r h)),
+            e ∙ ap (tile_position (tile_side Rows)) (sym (row_of r c Cols g)),
+            row_size,
+            column_of_lem r c Cols g,
+            b.0,
+            b.1,
+            part_at (r * Cols) Cols 0 s.band.valid_mask.now c g,
+            part_at (r * Cols) Cols nan s.band.db.now c g,
+            normal_pixels-at w s.band (r * Cols + c) (omega (arith, row_fits r h)),
           )
 
-      put : (out ys zs : List A) → length out ≡ rows * cols → ys ≡ map of (row_shades full work y w (part (r * cols) cols marks) (part (r * cols) cols db))
-          → Above r out → Above (r + 1) (take (r * cols) out ++ (ys ++ zs))
+      put : (out ys zs : List A) → length out ≡ Rows * Cols → ys ≡ map of (row_shades full work y w row)
+          → Above r out → Above (r + 1) (take (r * Cols) out ++ (ys ++ zs))
       unfolding row_shades
-      put out ys zs n q all i l = go (dec_lt i (r * cols))
+      put out ys zs n q all i l = go (dec_lt i (r * Cols))
         where
           a : ℕ
-          a = r * cols
+          a = r * Cols
 
           fits : a ≤ length out
-          fits = omega (arith, row_fits s r h)
+          fits = omega (arith, row_fits r h)
 
-          row_size : length (part (r * cols) cols db) ≡ cols
-          row_size = row_length s r h db s.db_length
+          values : List ℕ
+          values = map value (places count)
 
-          row : List ℕ
-          row = map value (places (length (part (r * cols) cols db)))
+          as_many : length values ≡ Cols
+          as_many = length-map (places count) value ∙ places-length 0 count ∙ row_size
 
-          count : length row ≡ cols
-          count = length-map (places (length (part (r * cols) cols db))) value ∙ places-length 0 (length (part (r * cols) cols db)) ∙ row_size
+          size : length ys ≡ Cols
+          size = ap length q ∙ length-map values of ∙ as_many
 
-          size : length ys ≡ cols
-          size = ap length q ∙ length-map row of ∙ count
-
-          at : (c : ℕ) → c < cols → get_or (take a out ++ (ys ++ zs)) (a + c) (of 0) ≡ Value (a + c)
+          at : (c : ℕ) → c < Cols → get_or (take a out ++ (ys ++ zs)) (a + c) (of 0) ≡ Value (a + c)
           at c g =
-              put-inside (of 0) a out ys zs fits c (omega (arith, size)) ∙ ap (λ (t : List A). get_or t c (of 0)) q ∙ map_at of 0 (of 0) row c (omega (arith, count))
-              ∙ ap of (places-at value 0 (length (part (r * cols) cols db)) c (omega (arith, row_size)) ∙ row_value c g)
+              put-inside (of 0) a out ys zs fits c (omega (arith, size)) ∙ ap (λ (t : List A). get_or t c (of 0)) q ∙ map_at of 0 (of 0) values c (omega (arith, as_many))
+              ∙ ap of (places-at value 0 count c (omega (arith, row_size)) ∙ row_value c g)
 
           go : Dec (i < a) → get_or (take a out ++ (ys ++ zs)) i (of 0) ≡ Value i
           go (yes b) = put-before (of 0) a out ys zs fits i b ∙ all i b
           go (no b) =
               let c = i - a in
               let t : a + c ≡ i = omega (arith, b) in
-              subst (λ (j : ℕ). get_or (take a out ++ (ys ++ zs)) j (of 0) ≡ Value j) t (at c (omega (arith, b, next_times r cols)))
+              subst (λ (j : ℕ). get_or (take a out ++ (ys ++ zs)) j (of 0) ≡ Value j) t (at c (omega (arith, b, next_times r Cols)))
 
     -- the rows before r and row r
-    pub row_put : (r side : ℕ) (y : TilePosition) (out ys zs : List A) → r < rows → side ≡ tile_side rows → y ≡ tile_position side r
-        → length out ≡ rows * cols → ys ≡ map of (row_shades full work y w (part (r * cols) cols marks) (part (r * cols) cols db))
-        → Above r out → Above (r + 1) (take (r * cols) out ++ (ys ++ zs))
-    row_put r side y out ys zs h d e = put r h y (e ∙ ap (λ (m : ℕ). tile_position m r) d) out ys zs
+    pub row_put : (r side : ℕ) (y : TilePosition) (row : Band) (out ys zs : List A) → r < Rows → side ≡ tile_side Rows → y ≡ tile_position side r → Row r row
+        → length out ≡ Rows * Cols → ys ≡ map of (row_shades full work y w row)
+        → Above r out → Above (r + 1) (take (r * Cols) out ++ (ys ++ zs))
+    row_put r side y row out ys zs h d e b = put r h y (e ∙ ap (λ (m : ℕ). tile_position m r) d) row b out ys zs
 
-    pub all_rows : (r : ℕ) (out : List A) → length out ≡ rows * cols → r ≡ rows → Above r out → out ≡ map of (shades full work rows cols Px)
+    pub all_rows : (r : ℕ) (out : List A) → length out ≡ Rows * Cols → r ≡ Rows → Above r out → out ≡ map of (shades full work Rows Cols Px)
     unfolding shades
     all_rows r out n e above =
-        let size = band-length w marks db (s.marks-length ∙ sym s.db_length) ∙ s.db_length in
-        let F = place_shade full work rows cols in
+        let size = normal_pixels-length w s.band ∙ s.sized in
+        let F = place_shade full work Rows Cols in
         let zs = zip_with F (places (length Px)) Px in
         let m = places-length 0 (length Px) in
         let count = zip_length F (places (length Px)) Px m in

@@ -4,12 +4,13 @@ use mathlib.Core.List.{zip_with}
 use native.Mathlib.Nat.{suc_inj}
 use lib.Ieee.{Float, nan}
 use lib.ListN.{length-map, get_or-append}
+use Rattle.raster.specs.declared.band.Band.{Band}
 use Rattle.types.specs.declared.WindowFloats.{WindowFloats}
 use Rattle.spec.specs.Lists.{places}
 use Rattle.lists.proofs.Zip.{zip-take, zip-drop}
 use Rattle.clahe.proofs.Cells.{places-length, places-at}
 use Rattle.spec.specs.Pixels.{pixel, pixels}
-use Rattle.clahe.specs.Band.{normal_in, band}
+use Rattle.clahe.specs.Band.{normal_in, normal_pixels}
 
 module _ {A : Type 0} {B : Type 0} (f : A → B) where
   map-take : (n : ℕ) (xs : List A) → map f (take n xs) ≡ take n (map f xs)
@@ -50,14 +51,19 @@ part_is a n xs = let e : a + n - a ≡ n = omega arith in ap (λ (m : ℕ). take
 pub part_at : {A : Type 0} (a n : ℕ) (d : A) (xs : List A) (k : ℕ) → k < n → get_or (part a n xs) k d ≡ get_or xs (a + k) d
 part_at a n d xs k h = get_or-take (a + n - a) (drop a xs) k d (omega arith) ∙ get_or-drop a xs k d
 
-pub parts_fit : (a n m : ℕ) (marks : List ℕ) (db : List Float) → a + n ≤ m → length marks ≡ m → length db ≡ m → n ≤ 4096
-    → (length (part a n marks) ≡ length (part a n db)) × (length (part a n db) ≤ 4096)
-parts_fit a n m marks db h k l b = let e = part_length a n db (omega arith) in (part_length a n marks (omega arith) ∙ sym e, omega arith)
+-- a band of the n pixels of another from a on
+abbrev pub Part : ℕ → ℕ → Band → Band → Type 0
+Part a n whole some = (some.db.now ≡ part a n whole.db.now) × (some.valid_mask.now ≡ part a n whole.valid_mask.now)
 
-pub band_part : (w : WindowFloats) (marks : List ℕ) (db : List Float) (a n : ℕ) → band w (part a n marks) (part a n db) ≡ take n (drop a (band w marks db))
+pub band_length : (a n : ℕ) (whole some : Band) → Part a n whole some → a + n ≤ length whole.db.now → length some.db.now ≡ n
+band_length a n whole some e h = ap length e.0 ∙ part_length a n whole.db.now h
+
+pub part_pixels : (w : WindowFloats) (a n : ℕ) (whole some : Band) → Part a n whole some → normal_pixels w some ≡ take n (drop a (normal_pixels w whole))
 unfolding pixels
-band_part w marks db a n =
-    rw (part_is a n marks, part_is a n db)
+part_pixels w a n whole some e =
+    let marks = whole.valid_mask.now in
+    let db = whole.db.now in
+    rw (e.0, e.1, part_is a n marks, part_is a n db)
     (ap (map (normal_in w)) (zip-take pixel n (drop a marks) (drop a db) ∙ ap (take n) (zip-drop pixel a marks db))
     ∙ map-take (normal_in w) n (drop a (pixels marks db)) ∙ ap (take n) (map-drop (normal_in w) a (pixels marks db)))
 

@@ -8,7 +8,7 @@ use Rattle.spec.specs.Lists.{places}
 use Rattle.spec.specs.Clahe.{tile_side, tile_position, blend}
 use Rattle.clahe.specs.declared.columns.Column.{Column}
 use Rattle.clahe.specs.Work.{Among, sum_in, next_tile, sampled}
-use Rattle.clahe.specs.Paint.{column_of, columns_of}
+use Rattle.clahe.specs.Paint.{at_position, column_of, columns_of}
 use Rattle.clahe.proofs.Cells.{places-length, places-at, from_places}
 
 module _ (side i : ℕ) where
@@ -57,7 +57,7 @@ unfolding columns_of
 all_columns cols xs e all = from_places (column_of cols) none cols xs e all
 
 -- the next column, from its position
-pub column_made : (cols c side : ℕ) (p : TilePosition) (x : Column) → side ≡ tile_side cols → p ≡ tile_position side c → x ≡ (record { first = p.first; weight = p.weight }) → x ≡ column_of cols c
+pub column_made : (cols c side : ℕ) (p : TilePosition) (x : Column) → side ≡ tile_side cols → p ≡ tile_position side c → x ≡ at_position p → x ≡ column_of cols c
 column_made cols c side p x d e f = cc (f, e, d)
 
 -- ---- a sample

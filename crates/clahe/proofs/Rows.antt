@@ -1,14 +1,19 @@
 -- The levels of a row or of a part of a band, one pixel after another, and a bound on the counts that they are added to. Assumes nothing.
-use Rattle.std.proofs.Common.{◌≡◌, ℕ, zero, suc, ◌+◌, ◌<◌, ◌≤◌, List, [], ◌∷◌, length, get_or, drop, refl, le_of_suc-le-suc, not-suc-le-zero, add-one, arith, drop-cons}
+use Rattle.std.proofs.Common.{◌≡◌, ℕ, zero, suc, ◌≤◌, List, [], ◌∷◌, map, get_or, refl, arith}
 use mathlib.Core.List.{zip_with}
+use mathlib.Core.Logic.{◌⊎◌, inl, inr}
 use lib.Ieee.{Float}
 use Rattle.types.specs.declared.WindowFloats.{WindowFloats}
 use Rattle.spec.specs.Lists.{added, stored}
-use Rattle.spec.specs.Pixels.{off, on, pixel, pixels, valid_of}
+use Rattle.spec.specs.Pixels.{Pixel, off, on, pixel, pixels, valid_of}
 use Rattle.spec.specs.Grey.{normal_pixel}
 use Rattle.spec.specs.Value.{normalized}
 use Rattle.spec.specs.Clahe.{level_of}
-use Rattle.clahe.specs.Band.{band, levels}
+use Rattle.clahe.specs.Band.{normal_in, levels}
+
+-- the pixels of marks and dB, normalised by a window, as normal_pixels has those of a band
+abbrev pub normalised : WindowFloats → List ℕ → List Float → List Pixel
+normalised w marks db = map (normal_in w) (pixels marks db)
 
 pub pixel-on : (m : ℕ) (v : Float) → (m ≡ 0 → ⊥) → pixel m v ≡ on v
 unfolding pixel
@@ -28,25 +33,21 @@ Most m h = (k : ℕ) → get_or h k 0 ≤ m
 
 -- ---- one pixel after another
 
-module _ (w : WindowFloats) (marks : List ℕ) (db : List Float) (h : List ℕ) (i : ℕ) where
-  abbrev Left : List ℕ → ℕ → List ℕ
-  Left g j = stored g (levels (band w (drop j marks) (drop j db)))
-
-  pub row_end : length db ≤ i → length marks ≤ i → Left h i ≡ h
+module _ (w : WindowFloats) {marks : List ℕ} {db : List Float} (h : List ℕ) where
+  pub row_end : (db ≡ []) ⊎ (marks ≡ []) → stored h (levels (normalised w marks db)) ≡ h
   unfolding stored pixels zip_with valid_of
-  row_end a b = rw (drop_of db i a, drop_of marks i b)
+  row_end (inl e) = rw e (none marks)
     where
-      drop_of : {A : Type 0} (xs : List A) (j : ℕ) → length xs ≤ j → drop j xs ≡ []
-      drop_of [] zero l = refl
-      drop_of [] (suc j) l = refl
-      drop_of (x ∷ xs) zero l = absurd (not-suc-le-zero l)
-      drop_of (x ∷ xs) (suc j) l = drop_of xs j (le_of_suc-le-suc l)
+      none : (ms : List ℕ) → stored h (levels (normalised w ms [])) ≡ h
+      none [] = refl
+      none (m ∷ ms) = refl
+  row_end (inr e) = rw e refl
 
-  module _ (d : Float) (a : i < length db) (b : i < length marks) where
-    pub row_on : (get_or marks i 0 ≡ 0 → ⊥) → Left h i ≡ Left (added (level_of (normalized w.low w.high w.range (get_or db i d))) h) (i + 1)
+  module _ (m : ℕ) (v : Float) {ms : List ℕ} {vs : List Float} (a : db ≡ v ∷ vs) (b : marks ≡ m ∷ ms) where
+    pub row_on : (level : ℕ) → (m ≡ 0 → ⊥) → level ≡ level_of (normalized w.low w.high w.range v) → stored h (levels (normalised w marks db)) ≡ stored (added level h) (levels (normalised w ms vs))
     unfolding stored pixels zip_with valid_of normal_pixel
-    row_on e = rw (add-one i, drop-cons db i d, drop-cons marks i 0, pixel-on (get_or marks i 0) (get_or db i d) e)
+    row_on level d e = rw (a, b, pixel-on m v d, e) refl
 
-    pub row_off : get_or marks i 0 ≡ 0 → Left h i ≡ Left h (i + 1)
+    pub row_off : m ≡ 0 → stored h (levels (normalised w marks db)) ≡ stored h (levels (normalised w ms vs))
     unfolding stored pixels zip_with valid_of normal_pixel
-    row_off e = rw (add-one i, drop-cons db i d, drop-cons marks i 0, pixel-off (get_or marks i 0) (get_or db i d) e)
+    row_off e = rw (a, b, pixel-off m v e) refl

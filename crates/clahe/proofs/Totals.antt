@@ -1,5 +1,5 @@
 -- Running sums of a list, one element after another. Assumes nothing.
-use Rattle.std.proofs.Common.{◌≡◌, ℕ, zero, suc, ◌+◌, ◌*◌, ◌^◌, ◌<◌, ◌≤◌, List, [], ◌∷◌, length, get_or, take, sum, refl, ap, ◌∙◌, le_of_suc-le-suc, not-suc-le-zero, arith, Fits, w32}
+use Rattle.std.proofs.Common.{◌≡◌, ℕ, zero, suc, ◌+◌, ◌*◌, ◌^◌, ◌<◌, ◌≤◌, List, [], ◌∷◌, length, get_or, take, sum, refl, ap, ◌∙◌, le_of_suc-le-suc, not-suc-le-zero, arith}
 use Rattle.std.proofs.lemmas.List.Elements.{All-from_get_or}
 use Rattle.std.proofs.lemmas.List.Sums.{sum_by-cons, sum_by-le}
 use lib.Ieee.{Float, binary64, div}
@@ -13,7 +13,7 @@ unfolding sum_of
 sum_is [] = refl
 sum_is (h ∷ hs) = sum_by-cons (λ x. x) h hs ∙ ap (λ (n : ℕ). h + n) (sum_is hs)
 
-pub sum_most : (hs : List ℕ) → ((i : ℕ) → Fits w32 (get_or hs i 0)) → sum hs ≤ length hs * 2 ^ 32
+pub sum_most : (hs : List ℕ) → ((i : ℕ) → get_or hs i 0 < 2 ^ 32) → sum hs ≤ length hs * 2 ^ 32
 sum_most hs fits = sum_by-le (λ x. x) (2 ^ 32) hs (All-from_get_or (λ x. x ≤ 2 ^ 32) hs 0 (λ i h. omega (arith, fits i)))
 
 pub sum-take : (hs : List ℕ) (i : ℕ) → i < length hs → sum_of (take (suc i) hs) ≡ sum_of (take i hs) + get_or hs i 0

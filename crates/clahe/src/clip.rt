@@ -1,5 +1,5 @@
 // A tile's counts after clipping, by the source's float steps.
-ghost use Rattle.std.specs.Prelude.{◌≡◌, ℕ, ◌+◌, ◌^◌, ◌<◌, ◌≤◌, T, map, length, if◌then◌else◌, nat_lt, slice_index};
+ghost use Rattle.std.specs.Prelude.{◌≡◌, ℕ, ◌+◌, ◌^◌, ◌<◌, ◌≤◌, T, map, if◌then◌else◌, nat_lt, slice_index};
 ghost use Rattle.std.specs.Float.{binary64};
 ghost use Rattle.std.specs.Float.Ieee.{add, sub, div, lt, le, to_unsigned};
 ghost use Rattle.spec.specs.Floats.{zero64, of_count, round_as_u64};
@@ -7,6 +7,8 @@ ghost use Rattle.spec.specs.Lists.{sum_of};
 ghost use Rattle.spec.specs.Clahe as Clahe;
 
 use numeric::Binary;
+
+// Kept: the casts by `as` here, of a usize or of a u64 to a u32, are those that no `From` covers.
 
 // `f64 as u32`: the fraction dropped, held to the range, 0 for a NaN.
 fn f64_as_u32(x: f64) -> u32
@@ -34,7 +36,7 @@ fn above(size: f64, limit: f64) -> f64
 fn with_excess(sum: f64, h: u32, limit: f64) -> f64
     ensures { result ≡ (if lt limit (of_count h) then add binary64 sum (sub binary64 (of_count h) limit) else sum) }
 {
-    let size = h as f64;
+    let size = f64::from(h);
     if size > limit {
         sum + above(size, limit)
     } else {
@@ -43,8 +45,7 @@ fn with_excess(sum: f64, h: u32, limit: f64) -> f64
 }
 
 // What all bins have above the limit.
-fn excess(hist: &[u32], limit: f64) -> f64
-    requires { length hist.now ≡ 256 }
+fn excess(hist: &[u32; 256], limit: f64) -> f64
     ensures { result ≡ Clahe.excess limit zero64 hist.now }
 {
     hist.iter().fold(0.0, |sum, h| with_excess(sum, *h, limit))
@@ -54,7 +55,7 @@ fn excess(hist: &[u32], limit: f64) -> f64
 fn clipped(h: u32, limit: f64) -> u32
     ensures { result ≡ Clahe.clipped limit h }
 {
-    if h as f64 > limit {
+    if f64::from(h) > limit {
         f64_as_u32(limit)
     } else {
         h
@@ -62,8 +63,7 @@ fn clipped(h: u32, limit: f64) -> u32
 }
 
 // Each bin clipped.
-fn clip_bins(hist: &mut [u32], limit: f64)
-    requires { length hist.old ≡ 256 }
+fn clip_bins(hist: &mut [u32; 256], limit: f64)
     ensures { hist.new ≡ map (Clahe.clipped limit) hist.old }
 {
     for h in hist.iter_mut() {
@@ -94,8 +94,8 @@ fn with_share(h: u32, b: u64, each: u32, rest: u64) -> u32
 }
 
 // Each bin with its share.
-fn share(hist: &mut [u32], each: u32, rest: u64)
-    requires { (length hist.old ≡ 256) × ((k : ℕ) → slice_index hist.old k + each + 1 < 2 ^ 32) }
+fn share(hist: &mut [u32; 256], each: u32, rest: u64)
+    requires { (k : ℕ) → slice_index hist.old k + each + 1 < 2 ^ 32 }
     ensures { hist.new ≡ Clahe.one_by_one rest (map (λ h. h + each) hist.old) }
 {
     for (b, h) in hist.iter_mut().enumerate() {
@@ -104,8 +104,8 @@ fn share(hist: &mut [u32], each: u32, rest: u64)
 }
 
 // A tile's counts after clipping at a limit.
-pub fn clip_at(hist: &mut [u32], limit: f64)
-    requires { (length hist.old ≡ 256) × (sum_of hist.old < 2 ^ 31) × T (le zero64 limit) }
+pub fn clip_at(hist: &mut [u32; 256], limit: f64)
+    requires { (sum_of hist.old < 2 ^ 31) × T (le zero64 limit) }
     ensures { hist.new ≡ Clahe.clip_at limit hist.old }
 {
     let over = excess(hist, limit);

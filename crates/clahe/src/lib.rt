@@ -9,37 +9,39 @@ pub mod columns; // columns.rt: the positions of all columns, worked out once a 
 mod paint; // paint.rt: the values of pixels from the tiles' sums, row by row
 
 ghost use Rattle.std.specs.Prelude.{◌≡◌, ◌*◌, map, length};
-ghost use Rattle.spec.specs.Pixels.{pixels};
+ghost use Rattle.raster.specs.Bands.{pixels_of};
 ghost use Rattle.spec.specs.Grey.{normal_pixel};
 ghost use Rattle.spec.specs.Gamma.{full_of};
 ghost use Rattle.spec.specs.Clahe.{clahe_values};
-ghost use Rattle.clahe.specs.Band.{Raster};
 
 use columns::{Column, column_positions};
 use numeric::depth::Depth;
 use paint::shades;
+use raster::Raster;
 use sums::write_tables;
-use types::{Sides, WindowFloats};
+use types::WindowFloats;
 
-// The values of a band from its window, before any stretch. The work list is left with the tiles' sums.
+// The values of a raster from its window, before any stretch. The work list is left with the tiles' sums.
 pub fn clahe_values<D: Depth>(
-    db: &[f64],
-    valid_mask: &[u8],
-    sides: Sides,
+    raster: &Raster,
     window: WindowFloats,
     work: &mut [f64],
     out: &mut [D],
 )
-    requires { Raster sides.rows sides.cols valid_mask.now db.now × (length work.old ≡ 16384) × (length out.old ≡ sides.rows * sides.cols) }
-    ensures { out.new ≡ map D.of (clahe_values (full_of D.depth) sides.rows sides.cols (map (normal_pixel window.low window.high window.range) (pixels valid_mask.now db.now))) }
+    requires { (length work.old ≡ 16384) × (length out.old ≡ raster.now.sides.rows * raster.now.sides.cols) }
+    ensures { out.new ≡ map D.of (clahe_values (full_of D.depth) raster.now.sides.rows raster.now.sides.cols (map (normal_pixel window.low window.high window.range) (pixels_of raster.now.band))) }
 {
-    write_tables(db, valid_mask, sides, window, work);
+    // The work as an array, so that no contract below says its length. By the clause it always is one, and the return never runs.
+    let Ok(work) = <&mut [f64; 16384]>::try_from(work) else {
+        return;
+    };
+    write_tables(raster, window, work);
     // Kept: a list of the greatest length, since there is no heap.
     let mut room = [Column {
         first: 0,
         weight: 0.0,
     }; 4096];
-    let columns = &mut room[..sides.cols];
+    let columns = &mut room[..raster.sides.cols];
     column_positions(columns);
-    shades(db, valid_mask, sides, window, work, columns, out);
+    shades(raster, window, work, columns, out);
 }

@@ -1,5 +1,6 @@
 // The position of a row or a column among the tiles, and the sum there.
-ghost use Rattle.std.specs.Prelude.{◌≡◌, ◌<◌, ◌≤◌, length};
+// Kept: `Among y` is a clause where a position is read; as a ghost field of `TilePosition` its proof would stand in spec/specs/Clahe, whose definition makes one.
+ghost use Rattle.std.specs.Prelude.{◌≡◌, ◌<◌, ◌≤◌};
 ghost use Rattle.std.specs.Float.{binary64};
 ghost use Rattle.std.specs.Float.Ieee.{sub};
 ghost use Rattle.clahe.specs.Work.{Among, sum_in, sampled};
@@ -41,17 +42,17 @@ fn blend(weight: f64, a: f64, b: f64) -> f64
 }
 
 // The sum at bin b of the tile in row ty and column tx of tiles.
-// Kept: the caller of the archive lends the work as one list, so the place is counted here; public functions take that list too, and say its length.
-fn sum_in(work: &[f64], ty: usize, tx: usize, b: usize) -> f64
-    requires { (length work.now ≡ 16384) × (ty < 8) × (tx < 8) × (b < 256) }
+// Kept: the caller of the archive lends the work as one list, so the place is counted here.
+fn sum_in(work: &[f64; 16384], ty: usize, tx: usize, b: usize) -> f64
+    requires { (ty < 8) × (tx < 8) × (b < 256) }
     ensures { result ≡ sum_in work.now ty tx b }
 {
     work[(ty * 8 + tx) * 256 + b]
 }
 
 // The sum at bin b, from the four tiles around.
-pub fn sample(work: &[f64], y: TilePosition, x: Column, b: usize) -> f64
-    requires { (length work.now ≡ 16384) × Among y × (x.first < 8) × (b < 256) }
+pub fn sample(work: &[f64; 16384], y: TilePosition, x: Column, b: usize) -> f64
+    requires { Among y × (x.first < 8) × (b < 256) }
     ensures { result ≡ sampled work.now y x b }
 {
     let next = next_tile(x.first);

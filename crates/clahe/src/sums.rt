@@ -5,17 +5,17 @@ ghost use Rattle.std.specs.Float.Ieee.{div};
 ghost use Rattle.spec.specs.Floats.{zero64, one64, of_count, clamp_float};
 ghost use Rattle.spec.specs.Lists.{sum_of, places};
 ghost use Rattle.spec.specs.Clahe as Clahe;
-ghost use Rattle.clahe.specs.Band.{band, Raster};
+ghost use Rattle.clahe.specs.Band.{normal_pixels};
 ghost use Rattle.clahe.specs.Work.{Holds};
 
 use super::clip::{clip_at, threshold};
 use super::counts::count_tile;
 use super::tiles::tile_size;
-use types::{Sides, WindowFloats};
+use raster::Raster;
+use types::WindowFloats;
 
 // The sum of all bins.
-pub fn sum_of(hist: &[u32]) -> u64
-    requires { length hist.now ≡ 256 }
+pub fn sum_of(hist: &[u32; 256]) -> u64
     ensures { (result ≡ sum_of hist.now) × (result ≤ 2 ^ 40) }
 {
     hist.iter().map(|n| u64::from(*n)).sum()
@@ -30,8 +30,7 @@ fn part(sum: u64, whole: f64) -> f64
 }
 
 // The running sums of a tile's bins, over their sum.
-pub fn write_sums(hist: &[u32], sums: &mut [f64])
-    requires { (length hist.now ≡ 256) × (length sums.old ≡ 256) }
+pub fn write_sums(hist: &[u32; 256], sums: &mut [f64; 256])
     ensures { sums.new ≡ map (Clahe.sum_at hist.now) (places 256) }
 {
     let whole = numeric::max_f64(sum_of(hist) as f64, 1.0);
@@ -43,40 +42,30 @@ pub fn write_sums(hist: &[u32], sums: &mut [f64])
 }
 
 // The running sums of tile k, the tiles being counted row by row.
-pub fn tile_sums(
-    db: &[f64],
-    valid_mask: &[u8],
-    sides: Sides,
-    window: WindowFloats,
-    k: usize,
-    sums: &mut [f64],
-)
-    requires { Raster sides.rows sides.cols valid_mask.now db.now × (k < 64) × (length sums.old ≡ 256) }
-    ensures { sums.new ≡ map (Clahe.sum_at (Clahe.tile_table sides.rows sides.cols (band window valid_mask.now db.now) k)) (places 256) }
+pub fn tile_sums(raster: &Raster, window: WindowFloats, k: usize, sums: &mut [f64; 256])
+    requires { k < 64 }
+    ensures { sums.new ≡ map (Clahe.sum_at (Clahe.tile_table raster.now.sides.rows raster.now.sides.cols (normal_pixels window raster.now.band) k)) (places 256) }
 {
     let ty = k / 8;
     let tx = k % 8;
     let mut hist = [0u32; 256];
-    count_tile(db, valid_mask, sides, window, ty, tx, &mut hist);
+    count_tile(raster, window, ty, tx, &mut hist);
+    let sides = raster.sides;
     let limit = threshold(tile_size(sides.rows, ty) * tile_size(sides.cols, tx));
     clip_at(&mut hist, limit);
     write_sums(&hist, sums);
 }
 
 // The running sums of all tiles.
-pub fn write_tables(
-    db: &[f64],
-    valid_mask: &[u8],
-    sides: Sides,
-    window: WindowFloats,
-    work: &mut [f64],
-)
-    requires { Raster sides.rows sides.cols valid_mask.now db.now × (length work.old ≡ 16384) }
-    ensures { Holds (Clahe.tile_tables sides.rows sides.cols (band window valid_mask.now db.now)) work.new }
+pub fn write_tables(raster: &Raster, window: WindowFloats, work: &mut [f64; 16384])
+    ensures { Holds (Clahe.tile_tables raster.now.sides.rows raster.now.sides.cols (normal_pixels window raster.now.band)) work.new }
 {
+    let mut sums = [0.0; 256];
+    // Kept: by places, since of a list that `as_chunks_mut` cuts up the library does not say what it ends as.
     for k in 0..64 {
+        tile_sums(raster, window, k, &mut sums);
         let at = k * 256;
         let end = at + 256;
-        tile_sums(db, valid_mask, sides, window, k, &mut work[at..end]);
+        work[at..end].copy_from_slice(&sums);
     }
 }

@@ -1,4 +1,5 @@
 // Where the tiles of a side lie, and which sides are refused.
+// Kept: a side is at most 4,096 and a tile's number below 8 by clauses; a struct round either would be made of a bare number just before each call and say no more.
 ghost use Rattle.std.specs.Prelude.{◌≡◌, ◌<◌, ◌≤◌, ◌||◌};
 ghost use Rattle.spec.specs.Clahe.{tile_side, tile_start, tile_size};
 ghost use Rattle.spec.specs.Refusals.{side_refused};

@@ -9,10 +9,10 @@ use native.Mathlib.Nat.{mul_assoc, mul-le-mul_left, lt_of_le_of_lt, eq-or-lt_of_
 use native.Mathlib.Omega.{arith}
 use borrow.Author.Tests.{ne_eqb}
 use lib.Dec.{T, leb, ltb, eqb, leb→le, ltb→lt, eqb→eq}
-use lib.ListN.{length, get_or}
+use lib.ListN.{length}
 use Rattle.lists.proofs.Table.{both, both_left, both_right}
 use Rattle.spec.specs.Colour.{Rounds}
-use Rattle.colour_tables.specs.Tables.{Rank, Thresholds}
+use Rattle.colour_tables.specs.Tables.{n_at, d_at, Rank, Thresholds}
 use Rattle.colour_tables.proofs.Levels.{level_is}
 use Rattle.colour_tables.proofs.Farey.{Threshold, reaches, misses}
 
@@ -50,8 +50,8 @@ unless true b = true
 unless false b = b
 
 -- the threshold at place k, from 1 on, is sound for half the tenth root of scale ^ 10 * r / (10 ^ 10 * g)
-abbrev test : ℕ → ℕ → List ℕ → ℕ → Bool
-test m scale t k = unless (eqb k 0) (found m ((2 * k - 1) ^ 10 * 10 ^ 10) (scale ^ 10) (get_or t (2 * k) 0) (get_or t (2 * k + 1) 0))
+abbrev test : ℕ → ℕ → List (List ℕ) → ℕ → Bool
+test m scale t k = unless (eqb k 0) (found m ((2 * k - 1) ^ 10 * 10 ^ 10) (scale ^ 10) (n_at t k) (d_at t k))
 
 abbrev below : (ℕ → Bool) → ℕ → Bool
 below f zero = true
@@ -64,35 +64,32 @@ below_at f (suc n) t k h =
     (eq-or-lt_of_le (le_of_suc-le-suc h))
 
 -- all of them: n thresholds, the last one not passed by the greatest ratio
-abbrev pub passes : ℕ → ℕ → ℕ → List ℕ → Bool
+abbrev pub passes : ℕ → ℕ → ℕ → List (List ℕ) → Bool
 passes scale eps n t =
-    both (eqb (length t) (2 * n)) (both (below (test (255 + eps) scale t) n) (ltb (scale ^ 10 * (255 + eps)) ((2 * (n - 1) + 1) ^ 10 * (10 ^ 10 * max eps 1))))
+    both (eqb (length t) n) (both (below (test (255 + eps) scale t) n) (ltb (scale ^ 10 * (255 + eps)) ((2 * (n - 1) + 1) ^ 10 * (10 ^ 10 * max eps 1))))
 
-module _ (scale m least n : ℕ) (t : List ℕ) (sized : length t ≡ 2 * n) (passed : T (below (test m scale t) n))
+module _ (scale m least n : ℕ) (t : List (List ℕ)) (sized : length t ≡ n) (passed : T (below (test m scale t) n))
     (top : scale ^ 10 * m < (2 * (n - 1) + 1) ^ 10 * (10 ^ 10 * least)) where
   abbrev den : ℕ → ℕ
-  den k = seek (get_or t (2 * k) 0) (get_or t (2 * k + 1) 0) (get_or t (2 * k + 1) 0) (m - get_or t (2 * k + 1) 0 + 1)
+  den k = seek (n_at t k) (d_at t k) (d_at t k) (m - d_at t k + 1)
 
   threshold : (k : ℕ) → 0 < k → k < n →
-      Threshold m ((2 * k - 1) ^ 10 * 10 ^ 10) (scale ^ 10) (get_or t (2 * k) 0) (get_or t (2 * k + 1) 0) (get_or t (2 * k) 0 * den k / get_or t (2 * k + 1) 0) (den k)
+      Threshold m ((2 * k - 1) ^ 10 * 10 ^ 10) (scale ^ 10) (n_at t k) (d_at t k) (n_at t k * den k / d_at t k) (den k)
   threshold k pos h =
       says m _ _ _ _ _ _
-      (subst (λ (z : Bool). T (unless z (found m ((2 * k - 1) ^ 10 * 10 ^ 10) (scale ^ 10) (get_or t (2 * k) 0) (get_or t (2 * k + 1) 0))))
+      (subst (λ (z : Bool). T (unless z (found m ((2 * k - 1) ^ 10 * 10 ^ 10) (scale ^ 10) (n_at t k) (d_at t k))))
       (ne_eqb k 0 (λ e. omega arith)) (below_at (test m scale t) n passed k h))
 
   module _ (r g : ℕ) (pos : 0 < g) (lm : least ≤ g) (gm : g ≤ m) (rm : r ≤ m) where
-    low : (k : ℕ) → k < n → (0 < k → get_or t (2 * k) 0 * g ≤ get_or t (2 * k + 1) 0 * r) → (2 * k - 1) ^ 10 * (10 ^ 10 * g) ≤ scale ^ 10 * r
+    low : (k : ℕ) → k < n → (0 < k → n_at t k * g ≤ d_at t k * r) → (2 * k - 1) ^ 10 * (10 ^ 10 * g) ≤ scale ^ 10 * r
     low zero h f = omega arith
     low (suc k) h f =
         let x = reaches (threshold (suc k) (omega arith) h) r g (f (omega arith)) in
         rw mul_assoc at x
 
-    above : (k : ℕ) → k + 1 < n → get_or t (2 * k + 3) 0 * r < get_or t (2 * k + 2) 0 * g → scale ^ 10 * r < (2 * k + 1) ^ 10 * (10 ^ 10 * g)
+    above : (k : ℕ) → k + 1 < n → d_at t (k + 1) * r < n_at t (k + 1) * g → scale ^ 10 * r < (2 * k + 1) ^ 10 * (10 ^ 10 * g)
     above k h f =
-        let e2 : 2 * k + 2 ≡ 2 * (k + 1) = omega arith in
-        let e3 : 2 * k + 3 ≡ 2 * (k + 1) + 1 = omega arith in
-        let f' : get_or t (2 * (k + 1) + 1) 0 * r < get_or t (2 * (k + 1)) 0 * g = rw (e2, e3) at f in
-        let x = misses (threshold (k + 1) (omega arith) h) r g pos gm f' in
+        let x = misses (threshold (k + 1) (omega arith) h) r g pos gm f in
         let e : 2 * (k + 1) - 1 ≡ 2 * k + 1 = omega arith in
         subst (λ (z : ℕ). scale ^ 10 * r < z ^ 10 * (10 ^ 10 * g)) e (rw mul_assoc at x)
 
@@ -106,23 +103,23 @@ module _ (scale m least n : ℕ) (t : List ℕ) (sized : length t ≡ 2 * n) (pa
 
     rounds : (k : ℕ) → Rank t r g k → Rounds 10 (10 ^ 10 * g) (scale ^ 10 * r) k
     rounds k h =
-        let w : 2 * k + 1 < length t = h.within in
+        let w : k < length t = h.within in
         record {
           lower = low k (omega arith) h.reaches;
           upper = ⊎_elim (λ e. last k e) (λ l. above k l (h.misses (omega arith))) (eq-or-lt_of_le (let w' : k + 1 ≤ n = omega arith in w'));
         }
 
-pub thresholds_right : (scale eps n : ℕ) (t : List ℕ) → 1 ≤ n → n ≤ 256 → T (passes scale eps n t) → Thresholds scale eps t
+pub thresholds_right : (scale eps n : ℕ) (t : List (List ℕ)) → 1 ≤ n → n ≤ 256 → T (passes scale eps n t) → Thresholds scale eps t
 thresholds_right scale eps n t low high p =
-    let sized : length t ≡ 2 * n = eqb→eq _ _ (both_left (eqb (length t) (2 * n)) _ p) in
-    let p' = both_right (eqb (length t) (2 * n)) _ p in
+    let sized : length t ≡ n = eqb→eq _ _ (both_left (eqb (length t) n) _ p) in
+    let p' = both_right (eqb (length t) n) _ p in
     let passed = both_left (below (test (255 + eps) scale t) n) _ p' in
     let top : scale ^ 10 * (255 + eps) < (2 * (n - 1) + 1) ^ 10 * (10 ^ 10 * max eps 1) = ltb→lt _ _ (both_right (below (test (255 + eps) scale t) n) _ p') in
     record {
       least = omega arith;
       most = omega arith;
       right = λ r g k hr hg pos h.
-          let w : 2 * k + 1 < length t = h.within in
+          let w : k < length t = h.within in
           sym (level_is 10 _ _ k
           (rounds scale (255 + eps) (max eps 1) n t sized passed top (r + eps) (g + eps) pos (omega arith) (omega arith) (omega arith) k h)
           (omega arith));

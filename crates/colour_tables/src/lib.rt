@@ -1,17 +1,17 @@
 #![tactic(auto)]
 // The colour tables: red and green of each byte, by default and above a floor, and the ratios at which blue rises. Each holds the numbers of document 01's rule.
-ghost use Rattle.std.specs.Prelude.{◌≤◌};
+ghost use Rattle.std.specs.Prelude.{◌≡◌, ◌+◌, ◌≤◌, length};
 ghost use Rattle.spec.specs.Colour.{red, green, red_above, green_above};
 ghost use Rattle.colour_tables.specs.Tables.{Table, Tables, Thresholds};
 
 mod numbers;
 
-// The tables of one rule: red and green of each byte, and the ratios at which blue rises.
+// The tables of one rule: red and green of each byte, and the ratios at which blue rises, numerator and denominator of each.
 #[derive(Clone, Copy)]
 pub struct ColourTables {
     pub red: &'static [u8; 256],
     pub green: &'static [u8; 256],
-    pub thresholds: &'static [u16],
+    pub thresholds: &'static [[u16; 2]],
 }
 
 // The suppressed red and green of each byte, a table for each floor.
@@ -35,8 +35,9 @@ impl Floors {
 }
 
 // The ratios at which the suppressed blue rises, above whatever floor.
-pub fn blue_above_thresholds() -> &'static [u16]
-    ensures { Thresholds 918 8 result.now }
+fn blue_above_thresholds() -> &'static [[u16; 2]]
+    ensures right { Thresholds 918 8 result.now }
+    ensures sized { length result.now ≡ 66 }
 {
     &numbers::BLUE_ABOVE
 }
@@ -47,6 +48,7 @@ impl ColourTables {
         ensures red { Table red result.red.now }
         ensures green { Table green result.green.now }
         ensures blue { Thresholds 1224 0 result.thresholds.now }
+        ensures blue_sized { length result.thresholds.now ≡ 108 }
     {
         ColourTables {
             red: &numbers::RED,
@@ -61,6 +63,7 @@ impl ColourTables {
         ensures red { Table (red_above f) result.red.now }
         ensures green { Table (green_above f) result.green.now }
         ensures blue { Thresholds 918 8 result.thresholds.now }
+        ensures blue_sized { length result.thresholds.now ≡ 66 }
     {
         let floors = Floors::all();
         ColourTables {

@@ -14,8 +14,8 @@ use Rattle.types.specs.declared.AutoscaleStrategy.TheVariants.{Standard, Robust,
 use Rattle.types.specs.declared.PictureChoices.{PictureChoices}
 use Rattle.types.specs.declared.Clip.{Clip}
 use Rattle.types.specs.declared.HistogramStats.{HistogramStats}
-use Rattle.types.specs.declared.WindowAnswer.{WindowAnswer}
-use Rattle.types.specs.declared.WindowAnswer.TheVariants.{Blank}
+use Rattle.types.specs.declared.WindowFloats.{WindowFloats}
+use Rattle.std.specs.Prelude.{Option, Some, None}
 use Rattle.spec.specs.Answer.{Answer, done, first_of, or_refused, answer, number}
 use Rattle.spec.specs.Lists.{count_of, sum_of}
 use Rattle.spec.specs.Pixels.{pixels}
@@ -24,7 +24,7 @@ use Rattle.spec.specs.Strategies.{is_tamed}
 use Rattle.spec.specs.Bins.{bin_of, histogram}
 use Rattle.spec.specs.Statistics.{gathered, summary, summary_of, statistics_of, placed_statistics, compute_histogram_stats}
 use Rattle.spec.specs.Strongest.{strongest, place_in, nowhere}
-use Rattle.spec.specs.Window.{valid_range, low_contrast_clip, heavy_tailed_clip, high_range_clip, normal_clip, standard_clip, robust_clip, skew_factor, tail_heaviness, adaptive_clip, choose_clip, tamed_clip, opened, window_of, picture_window, read_window, autoscale_window}
+use Rattle.spec.specs.Window.{valid_range, low_contrast_clip, heavy_tailed_clip, high_range_clip, normal_clip, standard_clip, robust_clip, skew_factor, tail_heaviness, adaptive_clip, choose_clip, tamed_clip, opened, window_of, picture_window, window_floats, autoscale_window}
 use Rattle.spec.specs.Gamma.{U8}
 use Rattle.spec.specs.Stretch.{stretch}
 use Rattle.spec.specs.Grey.{values, grey_tests, autoscale_db_image_to_u8}
@@ -69,13 +69,13 @@ unfolding or_refused
 or_zero zero a e = refl
 or_zero (suc k) a e = absurd (omega (arith, e))
 
-blank-window : (t : Bool) (c : Clip) → t ≡ true → read_window (cond t Blank (opened c)) ≡ done []
-unfolding read_window
+blank-window : (t : Bool) (c : Clip) → t ≡ true → ◌≡◌ {A = Answer (List Float)} (done (window_floats (cond t None (Some (opened c))))) (done [])
+unfolding window_floats
 blank-window true c e = refl
 blank-window false c e = absurd (true≢false (sym e))
 
-blank_only : (t : Bool) (c : Clip) → read_window (cond t Blank (opened c)) ≡ done [] → t ≡ true
-unfolding read_window opened
+blank_only : (t : Bool) (c : Clip) → ◌≡◌ {A = Answer (List Float)} (done (window_floats (cond t None (Some (opened c))))) (done []) → t ≡ true
+unfolding window_floats opened
 blank_only true c e = refl
 blank_only false c e = let z = ap length (done-same _ _ e) in absurd (omega (arith, z))
 
@@ -115,14 +115,14 @@ tamed_clip_unread false s m d = refl
 
 window_unread : (strategy : AutoscaleStrategy) → (strategy ≡ Adaptive → ⊥) → (s : HistogramStats) (m d : Float) → window_of strategy (with_mean m d s) ≡ window_of strategy s
 unfolding window_of
-window_unread strategy n s m d = ap (λ (c : Clip). cond (eqb s.valid_count 0) Blank (opened c)) (clip_unread strategy n s m d)
+window_unread strategy n s m d = ap (λ (c : Clip). cond (eqb s.valid_count 0) None (Some (opened c))) (clip_unread strategy n s m d)
 
 picture_unread : (strategy : AutoscaleStrategy) → (strategy ≡ Adaptive → ⊥) → (copol : Bool) (s : HistogramStats) (m d : Float) →
     picture_window strategy copol (with_mean m d s) ≡ picture_window strategy copol s
 unfolding picture_window
 picture_unread strategy n copol s m d =
-    ap (λ (c : Clip). cond (eqb s.valid_count 0) Blank (opened (cond (is_tamed strategy) c (choose_clip strategy (with_mean m d s))))) (tamed_clip_unread copol s m d)
-    ∙ ap (λ (c : Clip). cond (eqb s.valid_count 0) Blank (opened (cond (is_tamed strategy) (tamed_clip copol s) c))) (clip_unread strategy n s m d)
+    ap (λ (c : Clip). cond (eqb s.valid_count 0) None (Some (opened (cond (is_tamed strategy) c (choose_clip strategy (with_mean m d s)))))) (tamed_clip_unread copol s m d)
+    ∙ ap (λ (c : Clip). cond (eqb s.valid_count 0) None (Some (opened (cond (is_tamed strategy) (tamed_clip copol s) c)))) (clip_unread strategy n s m d)
 
 -- ---- the bins
 
@@ -143,13 +143,13 @@ tamed_clip-bins_unread false s b05 b95 = refl
 
 window-bins_unread : (strategy : AutoscaleStrategy) (s : HistogramStats) (b05 b95 : ℕ) → window_of strategy (with_bins b05 b95 s) ≡ window_of strategy s
 unfolding window_of
-window-bins_unread strategy s b05 b95 = ap (λ (c : Clip). cond (eqb s.valid_count 0) Blank (opened c)) (clip-bins_unread strategy s b05 b95)
+window-bins_unread strategy s b05 b95 = ap (λ (c : Clip). cond (eqb s.valid_count 0) None (Some (opened c))) (clip-bins_unread strategy s b05 b95)
 
 picture-window-bins_unread : (strategy : AutoscaleStrategy) (copol : Bool) (s : HistogramStats) (b05 b95 : ℕ) → picture_window strategy copol (with_bins b05 b95 s) ≡ picture_window strategy copol s
 unfolding picture_window
 picture-window-bins_unread strategy copol s b05 b95 =
-    ap (λ (c : Clip). cond (eqb s.valid_count 0) Blank (opened (cond (is_tamed strategy) c (choose_clip strategy (with_bins b05 b95 s))))) (tamed_clip-bins_unread copol s b05 b95)
-    ∙ ap (λ (c : Clip). cond (eqb s.valid_count 0) Blank (opened (cond (is_tamed strategy) (tamed_clip copol s) c))) (clip-bins_unread strategy s b05 b95)
+    ap (λ (c : Clip). cond (eqb s.valid_count 0) None (Some (opened (cond (is_tamed strategy) c (choose_clip strategy (with_bins b05 b95 s)))))) (tamed_clip-bins_unread copol s b05 b95)
+    ∙ ap (λ (c : Clip). cond (eqb s.valid_count 0) None (Some (opened (cond (is_tamed strategy) (tamed_clip copol s) c)))) (clip-bins_unread strategy s b05 b95)
 
 -- ---- the place
 
@@ -170,13 +170,13 @@ tamed_clip_place_unread false s row col = refl
 
 window_place_unread : (strategy : AutoscaleStrategy) (s : HistogramStats) (row col : ℕ) → window_of strategy (with_place row col s) ≡ window_of strategy s
 unfolding window_of
-window_place_unread strategy s row col = ap (λ (c : Clip). cond (eqb s.valid_count 0) Blank (opened c)) (clip_place_unread strategy s row col)
+window_place_unread strategy s row col = ap (λ (c : Clip). cond (eqb s.valid_count 0) None (Some (opened c))) (clip_place_unread strategy s row col)
 
 picture-window_place_unread : (strategy : AutoscaleStrategy) (copol : Bool) (s : HistogramStats) (row col : ℕ) → picture_window strategy copol (with_place row col s) ≡ picture_window strategy copol s
 unfolding picture_window
 picture-window_place_unread strategy copol s row col =
-    ap (λ (c : Clip). cond (eqb s.valid_count 0) Blank (opened (cond (is_tamed strategy) c (choose_clip strategy (with_place row col s))))) (tamed_clip_place_unread copol s row col)
-    ∙ ap (λ (c : Clip). cond (eqb s.valid_count 0) Blank (opened (cond (is_tamed strategy) (tamed_clip copol s) c))) (clip_place_unread strategy s row col)
+    ap (λ (c : Clip). cond (eqb s.valid_count 0) None (Some (opened (cond (is_tamed strategy) c (choose_clip strategy (with_place row col s)))))) (tamed_clip_place_unread copol s row col)
+    ∙ ap (λ (c : Clip). cond (eqb s.valid_count 0) None (Some (opened (cond (is_tamed strategy) (tamed_clip copol s) c)))) (clip_place_unread strategy s row col)
 
 placed_is : (rows cols : ℕ) (m : List ℕ) (d : List Float) (s : HistogramStats) → compute_histogram_stats rows cols m d ≡ done s → s ≡ with_place s.max_row s.max_col (statistics_of (pixels m d))
 unfolding compute_histogram_stats placed_statistics statistics_of summary_of summary gathered
@@ -198,13 +198,13 @@ pub window_same : (strategy : AutoscaleStrategy) → is_tamed strategy ≡ false
 unfolding picture_window window_of
 window_same strategy n copol s = rw n refl
 
-greys_same : (strategy : AutoscaleStrategy) → is_tamed strategy ≡ false → (rows cols : ℕ) (px : List _) (w : WindowAnswer) →
+greys_same : (strategy : AutoscaleStrategy) → is_tamed strategy ≡ false → (rows cols : ℕ) (px : List _) (w : Option WindowFloats) →
     picture_greys strategy rows cols px w ≡ stretch (values U8 strategy rows cols px w)
 unfolding picture_greys
 greys_same strategy n rows cols px w = rw n refl
 
 module _ (strategy : AutoscaleStrategy) (n : is_tamed strategy ≡ false) (rows cols : ℕ) (m : List ℕ) (d : List Float) (out work : ℕ) (copol : Bool) where
-  win : WindowAnswer
+  win : Option WindowFloats
   win = picture_window strategy copol (statistics_of (pixels m d))
 
   grey-done : sides_refused rows cols ≡ false → lengths_refused rows cols m d ≡ false → unlike out (rows * cols) ≡ false → work_refused strategy work ≡ false → marks_refused m ≡ false →
@@ -213,7 +213,7 @@ module _ (strategy : AutoscaleStrategy) (n : is_tamed strategy ≡ false) (rows 
   unfolding autoscale_db_image_to_u8 grey_tests win answer
   grey-done a b c e f g h =
       or_zero _ _ (all_clear 1 _ (a, (both_false (both_false b c) e, (f, (g, (h, tt))))))
-      ∙ ap done (ap (λ (w : WindowAnswer). stretch (values U8 strategy rows cols (pixels m d) w)) (sym (window_same strategy n copol (statistics_of (pixels m d))))
+      ∙ ap done (ap (λ (w : Option WindowFloats). stretch (values U8 strategy rows cols (pixels m d) w)) (sym (window_same strategy n copol (statistics_of (pixels m d))))
       ∙ sym (greys_same strategy n rows cols (pixels m d) _))
 
 module _ (choices : PictureChoices) (n : is_tamed choices.strategy ≡ false) (rows cols : ℕ) (m1 : List ℕ) (d1 : List Float) (m2 : List ℕ) (d2 : List Float) (lent : Lent) where

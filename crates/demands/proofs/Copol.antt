@@ -10,10 +10,12 @@ use Rattle.types.specs.declared.CoPol.TheVariants.{Band1, Band2}
 use Rattle.types.specs.declared.Lent.{Lent}
 use Rattle.types.specs.declared.PictureChoices.{PictureChoices}
 use Rattle.types.specs.declared.SyntheticRgbMode.{SyntheticRgbMode}
-use Rattle.types.specs.declared.WindowAnswer.{WindowAnswer}
+use Rattle.types.specs.declared.PictureWindows.{PictureWindows}
+use Rattle.types.specs.declared.WindowFloats.{WindowFloats}
+use Rattle.std.specs.Prelude.{Option}
 use Rattle.spec.specs.Answer.{done, first_of, or_refused, answer, number}
 use Rattle.spec.specs.Colour.{colours_of}
-use Rattle.spec.specs.Copol.{first_is_copol, second_is_copol, TwoWindows, windows_of, synthetic_rgb_picture_copol, synthetic_rgb_windows}
+use Rattle.spec.specs.Copol.{first_is_copol, second_is_copol, windows_of, synthetic_rgb_picture_copol, synthetic_rgb_windows}
 use Rattle.spec.specs.Picture.{Picture, picture_greys, composed, picture_tests, synthetic_rgb_picture}
 use Rattle.spec.specs.Pixels.{Pixel, pixels}
 use Rattle.spec.specs.Refusals.{sides_refused, lengths_refused, unlike, work_refused, marks_refused, decibels_refused, tiles_refused}
@@ -43,15 +45,15 @@ swap_pictures : (strategy : AutoscaleStrategy) (ts us : List Bool) → ts ≡ us
     answer (first_of 1 ts) (composed strategy g2 g1) ≡ swapped_picture strategy (answer (first_of 1 us) (composed strategy g1 g2))
 swap_pictures strategy ts us e g1 g2 = ap (λ (l : List Bool). answer (first_of 1 l) (composed strategy g2 g1)) e ∙ swap_answer strategy (first_of 1 us) g1 g2
 
-abbrev two : WindowAnswer → WindowAnswer → TwoWindows
+abbrev two : Option WindowFloats → Option WindowFloats → PictureWindows
 two v w = record { first = v; second = w }
 
-swap_two : (k : ℕ) (v w : WindowAnswer) → answer k (two w v) ≡ swapped_windows (answer k (two v w))
+swap_two : (k : ℕ) (v w : Option WindowFloats) → answer k (two w v) ≡ swapped_windows (answer k (two v w))
 unfolding answer or_refused swapped_windows
 swap_two zero v w = refl
 swap_two (suc k) v w = refl
 
-swap_windows : (ts us : List Bool) → ts ≡ us → (v w : WindowAnswer) → answer (first_of 1 ts) (two w v) ≡ swapped_windows (answer (first_of 1 us) (two v w))
+swap_windows : (ts us : List Bool) → ts ≡ us → (v w : Option WindowFloats) → answer (first_of 1 ts) (two w v) ≡ swapped_windows (answer (first_of 1 us) (two v w))
 swap_windows ts us e v w = ap (λ (l : List Bool). answer (first_of 1 l) (two w v)) e ∙ swap_two (first_of 1 us) v w
 
 -- outside Tamed a picture's windows are the window call's
@@ -84,7 +86,7 @@ module _ (strategy : AutoscaleStrategy) (rows cols : ℕ) (m1 : List ℕ) (d1 : 
   abbrev px2 : List Pixel
   px2 = pixels m2 d2
 
-  abbrev greys : WindowAnswer → List Pixel → List ℕ
+  abbrev greys : Option WindowFloats → List Pixel → List ℕ
   greys w px = picture_greys strategy rows cols px w
 
   tests_swapped : (lent : Lent) → picture_tests strategy rows cols m2 d2 m1 d1 (swapped_lent lent) px2 px1 ≡ picture_tests strategy rows cols m1 d1 m2 d2 lent px1 px2
@@ -145,7 +147,7 @@ colours_are choices rows cols m1 d1 m2 d2 lent p e =
 
 -- a done picture's windows and greys
 module _ (choices : PictureChoices) (rows cols : ℕ) (m1 : List ℕ) (d1 : List Float) (m2 : List ℕ) (d2 : List Float) (lent : Lent) where
-  abbrev both : TwoWindows
+  abbrev both : PictureWindows
   both = windows_of choices.strategy choices.copol (pixels m1 d1) (pixels m2 d2)
 
   abbrev named : Bool

@@ -11,8 +11,8 @@ use lib.Ieee.{Float, nan, binary64, mul, le, of_bits, to_unsigned}
 use Rattle.types.specs.declared.AutoscaleStrategy.{AutoscaleStrategy}
 use Rattle.types.specs.declared.Clip.{Clip}
 use Rattle.types.specs.declared.PictureChoices.{PictureChoices}
-use Rattle.types.specs.declared.WindowAnswer.{WindowAnswer}
-use Rattle.types.specs.declared.WindowAnswer.TheVariants.{Window, Blank, Refused}
+use Rattle.types.specs.declared.WindowFloats.{WindowFloats}
+use Rattle.std.specs.Prelude.{Option, Some, None}
 use Rattle.spec.specs.Floats.{zero64, clamp_float}
 use Rattle.spec.specs.Lists.{lowest, highest}
 use Rattle.spec.specs.Answer.{done, first_of}
@@ -56,11 +56,11 @@ pixel-at (k ∷ m) (v ∷ d) (suc i) e h = pixel-at m d i (suc_inj e) h
 -- ---- the value of a pixel under a window that the strategies give
 
 -- blank or opened
-abbrev given : Bool → Clip → WindowAnswer
-given blank c = cond blank Blank (opened c)
+abbrev given : Bool → Clip → Option WindowFloats
+given blank c = cond blank None (Some (opened c))
 
 ValueOrder : BitDepth → Type 0
-ValueOrder depth = (c : Clip) (v w : Float) → Finite v → Finite w → T (le v w) → painter depth (opened c) (on v) ≤ painter depth (opened c) (on w)
+ValueOrder depth = (c : Clip) (v w : Float) → Finite v → Finite w → T (le v w) → painter depth (Some (opened c)) (on v) ≤ painter depth (Some (opened c)) (on w)
 
 order8 : ValueOrder U8
 unfolding ValueOrder painter opened paint
@@ -97,19 +97,18 @@ full_is : to_unsigned 64 full8 ≡ 255
 unfolding to_unsigned of_bits
 full_is = refl
 
-painter_255 : (w : WindowAnswer) (p : Pixel) → painter U8 w p ≤ 255
+painter_255 : (w : Option WindowFloats) (p : Pixel) → painter U8 w p ≤ 255
 unfolding painter paint grey_value curved value_of
-painter_255 (Window low high range gamma) off = zero-le
-painter_255 (Window low high range gamma) (on v) = pick (leb 3 (curve gamma))
+painter_255 (Some w) off = zero-le
+painter_255 (Some w) (on v) = pick (leb 3 (curve w.gamma))
   where
     x : Float
-    x = mul binary64 (normalized low high range v) full8
+    x = mul binary64 (normalized w.low w.high w.range v) full8
 
-    pick : (t : Bool) → cond t (value_of full8 low high range v) (gamma_value (over (curve gamma)) (under (curve gamma)) (normalized low high range v)) ≤ 255
+    pick : (t : Bool) → cond t (value_of full8 w.low w.high w.range v) (gamma_value (over (curve w.gamma)) (under (curve w.gamma)) (normalized w.low w.high w.range v)) ≤ 255
     pick true = le_trans (to_unsigned-le 64 (clamp_float zero64 full8 x) full8 (clamped_hi x zero64 full8 number_full)) (le_of_eq full_is)
-    pick false = gamma_byte (over (curve gamma)) (under (curve gamma)) (normalized low high range v)
-painter_255 Blank p = zero-le
-painter_255 (Refused k) p = zero-le
+    pick false = gamma_byte (over (curve w.gamma)) (under (curve w.gamma)) (normalized w.low w.high w.range v)
+painter_255 None p = zero-le
 
 -- ---- a band
 

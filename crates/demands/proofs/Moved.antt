@@ -11,7 +11,8 @@ use lib.Ieee.{Float, nan}
 use Rattle.types.specs.declared.AutoscaleStrategy.{AutoscaleStrategy}
 use Rattle.types.specs.declared.PictureChoices.{PictureChoices}
 use Rattle.types.specs.declared.Rgb.{Rgb}
-use Rattle.types.specs.declared.WindowAnswer.{WindowAnswer}
+use Rattle.types.specs.declared.WindowFloats.{WindowFloats}
+use Rattle.std.specs.Prelude.{Option}
 use Rattle.spec.specs.Lists.{places_from, lowest, highest}
 use Rattle.spec.specs.Answer.{done, first_of, or_refused, answer}
 use Rattle.spec.specs.Pixels.{Pixel, off, pixel, pixels, is_on}
@@ -84,7 +85,7 @@ module _ (ps : List ℕ) (n : ℕ) (o : Order ps n) where
   unfolding pixels pixel
   moved-pixels m d e f = zip-moved pixel 0 nan ps m d (e ∙ sym f)
 
-  values_moved : (depth : BitDepth) (strategy : AutoscaleStrategy) → is_clahe strategy ≡ false → (rows cols : ℕ) (px : List Pixel) (w : WindowAnswer) →
+  values_moved : (depth : BitDepth) (strategy : AutoscaleStrategy) → is_clahe strategy ≡ false → (rows cols : ℕ) (px : List Pixel) (w : Option WindowFloats) →
       values depth strategy rows cols (moved off ps px) w ≡ moved 0 ps (values depth strategy rows cols px w)
   values_moved depth strategy c rows cols px w =
       values-map depth strategy c rows cols (moved off ps px) w ∙ map-moved (painter depth w) off ps px
@@ -99,7 +100,7 @@ module _ (ps : List ℕ) (n : ℕ) (o : Order ps n) where
       ∙ map-moved (stretch_byte (lowest 65535 xs) (highest 0 xs)) 0 ps xs
       ∙ any-default _ 0 ps n (map (stretch_byte (lowest 65535 xs) (highest 0 xs)) xs) (length-map xs (stretch_byte (lowest 65535 xs) (highest 0 xs)) ∙ e) o
 
-  greys_moved : (strategy : AutoscaleStrategy) → is_clahe strategy ≡ false → (rows cols : ℕ) (px : List Pixel) → length px ≡ n → (w : WindowAnswer) →
+  greys_moved : (strategy : AutoscaleStrategy) → is_clahe strategy ≡ false → (rows cols : ℕ) (px : List Pixel) → length px ≡ n → (w : Option WindowFloats) →
       picture_greys strategy rows cols (moved off ps px) w ≡ moved 0 ps (picture_greys strategy rows cols px w)
   unfolding picture_greys
   greys_moved strategy c rows cols px e w =
@@ -111,7 +112,7 @@ module _ (ps : List ℕ) (n : ℕ) (o : Order ps n) where
       pick true xs l = refl
       pick false xs l = stretch-moved xs l
 
-  greys_size : (strategy : AutoscaleStrategy) → is_clahe strategy ≡ false → (rows cols : ℕ) (px : List Pixel) (w : WindowAnswer) → length (picture_greys strategy rows cols px w) ≡ length px
+  greys_size : (strategy : AutoscaleStrategy) → is_clahe strategy ≡ false → (rows cols : ℕ) (px : List Pixel) (w : Option WindowFloats) → length (picture_greys strategy rows cols px w) ≡ length px
   unfolding picture_greys stretch
   greys_size strategy c rows cols px w =
       pick (is_tamed strategy) (values U8 strategy rows cols px w) ∙ values-size U8 strategy c rows cols px w
@@ -170,10 +171,10 @@ module _ (ps : List ℕ) (n : ℕ) (o : Order ps n) where
 -- ---- the picture
 
 -- the window of a band
-abbrev pub win : AutoscaleStrategy → Bool → List Pixel → WindowAnswer
+abbrev pub win : AutoscaleStrategy → Bool → List Pixel → Option WindowFloats
 win strategy copol px = picture_window strategy copol (statistics_of px)
 
-steady_greys : (strategy : AutoscaleStrategy) → is_clahe strategy ≡ false → (w w' : WindowAnswer) → Steady w w' → (rows cols : ℕ) (px : List Pixel) →
+steady_greys : (strategy : AutoscaleStrategy) → is_clahe strategy ≡ false → (w w' : Option WindowFloats) → Steady w w' → (rows cols : ℕ) (px : List Pixel) →
     picture_greys strategy rows cols px w ≡ picture_greys strategy rows cols px w'
 unfolding picture_greys
 steady_greys strategy c w w' s rows cols px =

@@ -10,8 +10,8 @@ use Rattle.types.specs.declared.Clip.{Clip}
 use Rattle.types.specs.declared.HistogramStats.{HistogramStats}
 use Rattle.types.specs.declared.Lent.{Lent}
 use Rattle.types.specs.declared.SyntheticRgbMode.{SyntheticRgbMode}
-use Rattle.types.specs.declared.WindowAnswer.{WindowAnswer}
-use Rattle.types.specs.declared.WindowAnswer.TheVariants.{Blank}
+use Rattle.types.specs.declared.WindowFloats.{WindowFloats}
+use Rattle.std.specs.Prelude.{Option, Some, None}
 use Rattle.spec.specs.Answer.{first_of, or_refused, answer, number}
 use Rattle.spec.specs.Floats.{one64, max_float}
 use Rattle.spec.specs.Gamma.{U8, curve, curved, grey_value}
@@ -60,14 +60,14 @@ straight g low high range px eleven e = absurd (true≢false e)
 straight g low high range px one e = refl
 
 module _ (strategy : AutoscaleStrategy) (rows cols : ℕ) (px : List Pixel) where
-  abbrev Unmoved : WindowAnswer → Type 0
+  abbrev Unmoved : Option WindowFloats → Type 0
   Unmoved w = gamma_refused w ≡ false → values U8 strategy rows cols px w ≡ values_before strategy rows cols px w
 
-  blank_unmoved : Unmoved Blank
+  blank_unmoved : Unmoved None
   unfolding values values_before
   blank_unmoved e = refl
 
-  opened_unmoved : (c : Clip) → Chosen c.gamma → Unmoved (opened c)
+  opened_unmoved : (c : Clip) → Chosen c.gamma → Unmoved (Some (opened c))
   unfolding values values_before opened gamma_refused
   opened_unmoved c h e =
       let range = max_float (sub binary64 c.high c.low) one64 in
@@ -91,10 +91,10 @@ module _ (strategy : AutoscaleStrategy) (rows cols : ℕ) (m : List ℕ) (d : Li
   grey-done_is n = done-at_six _ _ _ _ _ _ _ _ n
 
 module _ (strategy : AutoscaleStrategy) (mode : SyntheticRgbMode) (rows cols : ℕ) (m1 : List ℕ) (d1 : List Float) (m2 : List ℕ) (d2 : List Float) (lent : Lent) where
-  abbrev w1 : WindowAnswer
+  abbrev w1 : Option WindowFloats
   w1 = picture_window strategy true (statistics_of (pixels m1 d1))
 
-  abbrev w2 : WindowAnswer
+  abbrev w2 : Option WindowFloats
   w2 = picture_window strategy false (statistics_of (pixels m2 d2))
 
   abbrev tamed : List ℕ → List ℕ

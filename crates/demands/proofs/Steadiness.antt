@@ -15,8 +15,8 @@ use Rattle.types.specs.declared.HistogramStats.{HistogramStats}
 use Rattle.types.specs.declared.Moments.{Moments}
 use Rattle.types.specs.declared.Percentile.{Percentile}
 use Rattle.types.specs.declared.Place.{Place}
-use Rattle.types.specs.declared.WindowAnswer.{WindowAnswer}
-use Rattle.types.specs.declared.WindowAnswer.TheVariants.{Blank}
+use Rattle.types.specs.declared.WindowFloats.{WindowFloats}
+use Rattle.std.specs.Prelude.{Option, Some, None}
 use Rattle.spec.specs.Floats.{half64, one64, two64, max_float}
 use Rattle.spec.specs.Lists.{counts}
 use Rattle.spec.specs.Number.{Alike, same, zeros}
@@ -242,14 +242,14 @@ module _ (s s' : HistogramStats) (h : SameNumbers s s') where
 -- ---- painting
 
 -- two windows of which one paints as the other
-pub record Steady (w w' : WindowAnswer) : Type 0 where
+pub record Steady (w w' : Option WindowFloats) : Type 0 where
   pub paints : (depth : BitDepth) (p : Pixel) → painter depth w p ≡ painter depth w' p
 
-opened_alike : (c c' : Clip) → SameClip c c' → Steady (opened c) (opened c')
+opened_alike : (c c' : Clip) → SameClip c c' → Steady (Some (opened c)) (Some (opened c'))
 unfolding opened painter paint
 opened_alike c c' a = record { paints = paints }
   where
-    paints : (depth : BitDepth) (p : Pixel) → painter depth (opened c) p ≡ painter depth (opened c') p
+    paints : (depth : BitDepth) (p : Pixel) → painter depth (Some (opened c)) p ≡ painter depth (Some (opened c')) p
     paints depth off = refl
     paints depth (on v) = rw (range_alike a.low a.high, a.gamma) (grey_alike depth c'.gamma _ v a.low a.high)
 
@@ -264,7 +264,7 @@ window_steady strategy n copol s s' h =
     which true = tamed_clip_alike s s' h copol
     which false = choose_clip_alike s s' h strategy n
 
-    none : (t t' : Bool) → t ≡ t' → {w w' : WindowAnswer} → Steady w w' → Steady (cond t Blank w) (cond t' Blank w')
+    none : (t t' : Bool) → t ≡ t' → {w w' : Option WindowFloats} → Steady w w' → Steady (cond t None w) (cond t' None w')
     none true true e k = record { paints = λ depth p. refl }
     none false false e k = k
     none true false e k = absurd (true≢false e)

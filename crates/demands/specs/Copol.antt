@@ -10,7 +10,8 @@ use Rattle.types.specs.declared.PictureChoices.{PictureChoices}
 use Rattle.types.specs.declared.SyntheticRgbMode.{SyntheticRgbMode}
 use Rattle.spec.specs.Answer.{Answer, refused, done, number}
 use Rattle.spec.specs.Colour.{colours_of}
-use Rattle.spec.specs.Copol.{TwoWindows, windows_of, synthetic_rgb_picture_copol, synthetic_rgb_windows}
+use Rattle.types.specs.declared.PictureWindows.{PictureWindows}
+use Rattle.spec.specs.Copol.{windows_of, synthetic_rgb_picture_copol, synthetic_rgb_windows}
 use Rattle.spec.specs.Picture.{Picture, picture_greys, composed, synthetic_rgb_picture}
 use Rattle.spec.specs.Pixels.{Pixel, pixels}
 use Rattle.spec.specs.Statistics.{statistics_of}
@@ -33,7 +34,7 @@ unfoldable pub swapped_picture : AutoscaleStrategy → Answer Picture → Answer
 swapped_picture strategy (refused k) = refused k
 swapped_picture strategy (done p) = done (composed strategy p.grey2 p.grey1)
 
-unfoldable pub swapped_windows : Answer TwoWindows → Answer TwoWindows
+unfoldable pub swapped_windows : Answer PictureWindows → Answer PictureWindows
 swapped_windows (refused k) = refused k
 swapped_windows (done w) = done (record { first = w.second; second = w.first })
 

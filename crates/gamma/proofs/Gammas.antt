@@ -8,8 +8,8 @@ use Rattle.types.specs.declared.AutoscaleStrategy.{AutoscaleStrategy}
 use Rattle.types.specs.declared.AutoscaleStrategy.TheVariants.{Standard, Robust, Adaptive, Equalized, Clahe, Tamed, Default}
 use Rattle.types.specs.declared.Clip.{Clip}
 use Rattle.types.specs.declared.HistogramStats.{HistogramStats}
-use Rattle.types.specs.declared.WindowAnswer.{WindowAnswer}
-use Rattle.types.specs.declared.WindowAnswer.TheVariants.{Blank}
+use Rattle.types.specs.declared.WindowFloats.{WindowFloats}
+use Rattle.std.specs.Prelude.{Option, Some, None}
 use Rattle.spec.specs.Strategies.{is_tamed}
 use Rattle.spec.specs.Floats.{zero64, half64, one64, two64, abs_float}
 use Rattle.spec.specs.Window.{gamma08, gamma09, gamma11, between, valid_range, low_contrast_clip, heavy_tailed_clip, high_range_clip, normal_clip, standard_clip, robust_clip, skew_factor, tail_heaviness, adaptive_clip, choose_clip, tamed_clip, picture_clip, opened, open_window, window_of, picture_window}
@@ -68,11 +68,11 @@ pictured strategy copol s = go (is_tamed strategy) copol
     go false copol = chosen strategy s
 
 -- what holds of the four holds of a window
-module _ (P : WindowAnswer → Type 0) (blank : P Blank) (opens : (c : Clip) → Chosen c.gamma → P (opened c)) where
+module _ (P : Option WindowFloats → Type 0) (blank : P None) (opens : (c : Clip) → Chosen c.gamma → P (Some (opened c))) where
   of_clip : (valid : ℕ) (c : Clip) → Chosen c.gamma → P (open_window valid c)
   of_clip valid c h = go (eqb valid 0)
     where
-      go : (b : Bool) → P (cond b Blank (opened c))
+      go : (b : Bool) → P (cond b None (Some (opened c)))
       go true = blank
       go false = opens c h
 
@@ -91,11 +91,11 @@ is_gamma_lem g nine = refl
 is_gamma_lem g eleven = refl
 is_gamma_lem g one = refl
 
-opened-usual : (c : Clip) → Chosen c.gamma → usual (opened c) ≡ true
+opened-usual : (c : Clip) → Chosen c.gamma → usual (Some (opened c)) ≡ true
 unfolding usual opened
 opened-usual c h = is_gamma_lem c.gamma h
 
-blank-usual : usual Blank ≡ true
+blank-usual : usual None ≡ true
 unfolding usual
 blank-usual = refl
 

@@ -3,8 +3,8 @@ use Rattle.std.specs.Prelude.{Bool, true, false, ◌||◌, ◌≡◌, Float}
 use Rattle.std.specs.Float.Ieee.{eq}
 use Rattle.types.specs.declared.AutoscaleStrategy.{AutoscaleStrategy}
 use Rattle.types.specs.declared.HistogramStats.{HistogramStats}
-use Rattle.types.specs.declared.WindowAnswer.{WindowAnswer}
-use Rattle.types.specs.declared.WindowAnswer.TheVariants.{Window, Blank, Refused}
+use Rattle.types.specs.declared.WindowFloats.{WindowFloats}
+use Rattle.std.specs.Prelude.{Option, Some, None}
 use Rattle.spec.specs.Floats.{one64}
 use Rattle.spec.specs.Window.{gamma08, gamma09, gamma11, window_of, picture_window}
 
@@ -13,10 +13,9 @@ unfoldable pub is_gamma : Float → Bool
 is_gamma gamma = eq gamma gamma08 || eq gamma gamma09 || eq gamma gamma11 || eq gamma one64
 
 -- a window with one of them, or a blank one
-unfoldable pub usual : WindowAnswer → Bool
-usual (Window low high range gamma) = is_gamma gamma
-usual Blank = true
-usual (Refused k) = false
+unfoldable pub usual : Option WindowFloats → Bool
+usual (Some w) = is_gamma w.gamma
+usual None = true
 
 -- no other gamma is chosen, for a grey call or a picture, whatever the statistics
 pub record Gammas : Type 0 where

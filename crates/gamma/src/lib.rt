@@ -8,7 +8,7 @@ ghost use Rattle.gamma.specs.Thresholds.{cell_of, Row, Rising, Rows, Guess, Near
 mod numbers;
 
 // The gammas that curve at eight bits.
-#[derive(Clone, Copy)]
+#[derive(Clone, Copy, Debug, PartialEq, Eq)]
 pub enum CurvedGamma {
     Gamma08,
     Gamma09,
@@ -34,19 +34,23 @@ impl CurvedGamma {
 }
 
 // The thresholds of all three gammas.
-fn all_thresholds() -> [[f64; 255]; 3]
-    ensures { Rows result }
+fn all_thresholds() -> &'static [[f64; 255]; 3]
+    ensures { Rows result.now }
 {
-    numbers::THRESHOLDS
+    &numbers::THRESHOLDS
 }
 
 // The thresholds of one of them.
-fn thresholds(gamma: CurvedGamma) -> [f64; 255]
-    ensures row { Row (over (number gamma)) (under (number gamma)) result }
-    ensures rising { Rising result }
+fn thresholds(gamma: CurvedGamma) -> &'static [f64; 255]
+    ensures row { Row (over (number gamma)) (under (number gamma)) result.now }
+    ensures rising { Rising result.now }
 {
     let all = all_thresholds();
-    all[gamma as usize]
+    match gamma {
+        CurvedGamma::Gamma08 => &all[0],
+        CurvedGamma::Gamma09 => &all[1],
+        CurvedGamma::Gamma11 => &all[2],
+    }
 }
 
 // The cell of 0..1 in which t lies.
@@ -72,7 +76,7 @@ fn guess_of(below: usize, cell: usize, thresholds: &[f64; 255]) -> usize
 }
 
 // How many thresholds lie in cells before each.
-pub fn guesses_of(thresholds: &[f64; 255]) -> [u8; 1024]
+fn guesses_of(thresholds: &[f64; 255]) -> [u8; 1024]
     requires { Rising thresholds.now }
     ensures { Guesses thresholds.now result }
 {
@@ -88,18 +92,18 @@ pub fn guesses_of(thresholds: &[f64; 255]) -> [u8; 1024]
 // The thresholds of one gamma, and how many of them lie in cells before each.
 #[derive(Drop)]
 pub struct Curve {
-    pub thresholds: [f64; 255],
+    pub thresholds: &'static [f64; 255],
     pub guesses: [u8; 1024],
-    pub ghost rising: { Rising thresholds },
-    pub ghost guessed: { Guesses thresholds guesses },
+    pub ghost rising: { Rising thresholds.now },
+    pub ghost guessed: { Guesses thresholds.now guesses },
 }
 
 impl Curve {
     pub fn new(gamma: CurvedGamma) -> Curve
-        ensures { Row (over (number gamma)) (under (number gamma)) result.thresholds }
+        ensures { Row (over (number gamma)) (under (number gamma)) result.thresholds.now }
     {
         let thresholds = thresholds(gamma);
-        let guesses = guesses_of(&thresholds);
+        let guesses = guesses_of(thresholds);
         Curve {
             thresholds,
             guesses,
@@ -108,7 +112,7 @@ impl Curve {
 
     // The value of t: the thresholds in cells before its own, and the one in its own if t reaches it.
     pub fn value(&self, t: f64) -> u8
-        ensures { Values self.now.thresholds t result }
+        ensures { Values self.now.thresholds.now t result }
     {
         let below = self.guesses[cell_of(t)];
         if self.thresholds[usize::from(below)] <= t {

@@ -14,11 +14,20 @@ use Rattle.spec.specs.Pixels.{Pixel, pixels, valid_of}
 use Rattle.spec.specs.Refusals.{sides_refused, lengths_refused, unlike, marks_refused, decibels_refused}
 use Rattle.spec.specs.Bins.{bins_of}
 use Rattle.spec.specs.Curve.{curve_of, compute_histogram}
-use Rattle.raster.proofs.Bands.{Shaped, none_applies, or_false, named, sides_accepted, lengths_accepted, first_stays, first_later, first-here, first_not_here, first-none}
+use Rattle.raster.proofs.Bands.{first_stays, first_later, first-here, first_not_here, first-none}
 use Rattle.histogram.specs.Extremes.{extremes_from}
 use Rattle.histogram.specs.Passes.{extremes}
 use Rattle.histogram.proofs.Extremes.{bins-extremes, extremes-count}
 use Rattle.histogram.proofs.Statistics.{pass_bad, pass_good, answer-refused, answer-done}
+
+-- ---- the pass that keeps count, least and greatest
+module _ (px : List Pixel) (s : Moments) (e : extremes px ≡ Some s) where
+  passed_is : (decibels_refused px ≡ false) × (extremes_from no_moments (valid_of px) ≡ s)
+  unfolding extremes
+  passed_is = pass_good px (extremes_from no_moments (valid_of px)) s e
+
+  pub passed-count : s.count ≡ length (valid_of px)
+  passed-count = ap (λ (t : Moments). t.count) (sym passed_is.1) ∙ extremes-count (valid_of px)
 
 -- ---- the call
 
@@ -49,15 +58,6 @@ module _ (rows cols : ℕ) (m : List ℕ) (d : List Float) (old : List ℕ) wher
       by_refusal call old k (is_call k (sym (first_stays 1 shape (decibels_refused px ∷ []) (λ z. n (e ∙ z))) ∙ sym e) ∙ answer-refused k (curve_of px) n)
 
   module _ (good : first_of 1 shape ≡ 0) where
-    pub bins_shaped : Shaped rows cols m d × (length old ≡ 4096)
-    bins_shaped =
-        let a = none_applies 0 (sides_refused rows cols) ((lengths_refused rows cols m d || unlike (length old) 4096) ∷ marks_refused m ∷ []) good in
-        let b = none_applies 1 (lengths_refused rows cols m d || unlike (length old) 4096) (marks_refused m ∷ []) a.1 in
-        let l = or_false (lengths_refused rows cols m d) (unlike (length old) 4096) b.0 in
-        let s = sides_accepted rows cols a.0 in
-        let n = lengths_accepted rows cols m d l.0 in
-        (record { rows_most = s.0; cols_most = s.1; length_db = n.0; length-marks = n.1; marks_good = (none_applies 2 (marks_refused m) [] b.1).0 }, named (length old) 4096 l.1)
-
     pub decibel_refused_lem : extremes px ≡ None → Owed call old 4 old
     unfolding extremes
     decibel_refused_lem e =
@@ -65,20 +65,13 @@ module _ (rows cols : ℕ) (m : List ℕ) (d : List Float) (old : List ℕ) wher
         by_refusal call old 4
         (is_call 4 (first_later 0 shape (decibels_refused px ∷ []) good ∙ first-here 4 (decibels_refused px) [] b) ∙ answer-refused 4 (curve_of px) (λ z. omega (arith, z)))
 
-    module _ (s : Moments) (e : extremes px ≡ Some s) where
-      passed_is : (decibels_refused px ≡ false) × (extremes_from no_moments (valid_of px) ≡ s)
-      unfolding extremes
-      passed_is = pass_good px (extremes_from no_moments (valid_of px)) s e
-
-      pub passed-count : s.count ≡ length (valid_of px)
-      passed-count = ap (λ (t : Moments). t.count) (sym passed_is.1) ∙ extremes-count (valid_of px)
-
-      pub bins-done : (new : List ℕ) → new ≡ bins_of s (valid_of px) → Owed call old 0 new
-      unfolding curve_of number after
-      bins-done new q =
-          let w : new ≡ curve_of px = q ∙ ap (λ (t : Moments). bins_of t (valid_of px)) (sym passed_is.1) ∙ bins-extremes (valid_of px) in
-          let c : call ≡ done (curve_of px) = is_call 0 (first_later 0 shape (decibels_refused px ∷ []) good ∙ first_not_here 4 (decibels_refused px) [] passed_is.0 ∙ first-none 5) ∙ answer-done 0 (curve_of px) refl in
-          by_done c w
-        where
-          by_done : call ≡ done (curve_of px) → new ≡ curve_of px → Owed call old 0 new
-          by_done c w = rw c (refl, w)
+    pub bins-done : (s : Moments) → extremes px ≡ Some s → (new : List ℕ) → new ≡ bins_of s (valid_of px) → Owed call old 0 new
+    unfolding curve_of number after
+    bins-done s e new q =
+        let p = passed_is px s e in
+        let w : new ≡ curve_of px = q ∙ ap (λ (t : Moments). bins_of t (valid_of px)) (sym p.1) ∙ bins-extremes (valid_of px) in
+        let c : call ≡ done (curve_of px) = is_call 0 (first_later 0 shape (decibels_refused px ∷ []) good ∙ first_not_here 4 (decibels_refused px) [] p.0 ∙ first-none 5) ∙ answer-done 0 (curve_of px) refl in
+        by_done c w
+      where
+        by_done : call ≡ done (curve_of px) → new ≡ curve_of px → Owed call old 0 new
+        by_done c w = rw c (refl, w)

@@ -2,10 +2,10 @@
 use mathlib.Core.Path.{◌≡◌, refl, sym, ap, ◌∙◌}
 use mathlib.Core.List.{List, [], ◌∷◌, map}
 use Prim.Native.Nat.{ℕ, ◌+◌, ◌^◌, ◌≤◌, ◌<◌, min, suc-le-suc}
-use native.Mathlib.Nat.{le_of_lt, min-eq_left, min-eq_right, min-le_right}
+use native.Mathlib.Nat.{min-le_right}
 use native.Mathlib.Omega.{arith}
 use lib.Dec.{T}
-use lib.ListN.{length, get_or, drop, replicate, length-replicate}
+use lib.ListN.{length, get_or, drop, replicate}
 use lib.Ieee.{Float, nan, binary64, mul, sub, le, of_bits, to_unsigned}
 use Rattle.spec.specs.Floats.{zero64, one64, clamp_float}
 use Rattle.spec.specs.Bins.{bins64, bin_of}
@@ -32,21 +32,14 @@ place_high x = le_trans (mul binary64 (clamp_float zero64 one64 x) bins64) bins6
 pub place_small : (x t : Float) → t ≡ clamp_float zero64 one64 x → T (le zero64 (mul binary64 t bins64)) × T (le (mul binary64 t bins64) full16)
 place_small x t e = rw e (place_low x, place_high x)
 
-module _ (least inv v t : Float) (b : ℕ) (e : t ≡ clamp_float zero64 one64 (mul binary64 (sub binary64 v least) inv)) (h : b ≡ to_unsigned 64 (mul binary64 t bins64)) where
-  bin_is : min b 4095 ≡ bin_of least inv v
-  unfolding bin_of
-  bin_is = ap (λ (n : ℕ). min n 4095) (h ∙ ap (λ (x : Float). to_unsigned 64 (mul binary64 x bins64)) e)
-
-  pub bin_below : b < 4095 → b ≡ bin_of least inv v
-  bin_below l = sym (min-eq_left (le_of_lt l)) ∙ bin_is
-
-  -- "4096 becomes 4095"
-  pub bin_last : 4095 ≤ b → 4095 ≡ bin_of least inv v
-  bin_last l = sym (min-eq_right l) ∙ bin_is
-
 pub bin_most : (least inv v : Float) → bin_of least inv v < 4096
 unfolding bin_of
 bin_most least inv v = suc-le-suc (min-le_right _ 4095)
+
+-- "4096 becomes 4095"
+pub bin_is : (least inv v t : Float) (b : ℕ) → t ≡ clamp_float zero64 one64 (mul binary64 (sub binary64 v least) inv) → b ≡ to_unsigned 64 (mul binary64 t bins64) → (n : ℕ) → n ≡ min b 4095 → (n ≡ bin_of least inv v) × (n < 4096)
+unfolding bin_of
+bin_is least inv v t b e h n f = rw (f, h, e) (refl, bin_most least inv v)
 
 -- ---- one turn
 
@@ -82,5 +75,5 @@ module _ (f : Float → ℕ) (h : List ℕ) (m : List ℕ) (d : List Float) (i :
 
 -- ---- empty bins
 
-pub room_of : (hist : List ℕ) (n : ℕ) → hist ≡ replicate 4096 0 → n < 2 ^ 32 → (length hist ≡ 4096) × ((k : ℕ) → get_or hist k 0 + n < 2 ^ 32)
-room_of hist n e h = (ap length e ∙ length-replicate {A = ℕ} 4096 0, λ k. omega (arith, ap (λ (l : List ℕ). get_or l k 0) e, zeros-at 4096 k))
+pub room_of : (hist : List ℕ) (n : ℕ) → hist ≡ replicate 4096 0 → n < 2 ^ 32 → (k : ℕ) → get_or hist k 0 + n < 2 ^ 32
+room_of hist n e h k = omega (arith, ap (λ (l : List ℕ). get_or l k 0) e, zeros-at 4096 k)

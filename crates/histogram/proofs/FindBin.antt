@@ -64,17 +64,16 @@ module _ (t before : ℕ) where
     find_bin_next k g =
         rw add-one (ap (find_bin t before i) (drop-cons hist i 0 l) ∙ find_bin-on i (get_or hist i 0) (drop (suc i) hist) (omega (arith, length-drop (suc i) hist)) g)
 
--- a place of the bins before the last
-pub before_last : (hist : List ℕ) (i : ℕ) → i < length (take (length hist - 1) hist) → (i + 1 < length hist) × (get_or (take (length hist - 1) hist) i 0 ≡ get_or hist i 0)
-before_last hist i h =
-    let e : length (take (length hist - 1) hist) ≡ length hist - 1 = length-take-le (length hist - 1) hist (omega arith) in
-    (omega arith, get_or-take (length hist - 1) hist i 0 (omega arith))
+-- of n bins and the last, by the walk over the n
+module _ (hist : List ℕ) (n i : ℕ) (e : length hist ≡ n + 1) where
+  first_length : length (take n hist) ≡ n
+  first_length = length-take-le n hist (omega arith)
 
--- the place that they end at
-pub last_place : (hist : List ℕ) (i : ℕ) → i ≤ length (take (length hist - 1) hist) → length (take (length hist - 1) hist) ≤ i → length hist - 1 ≡ i
-last_place hist i g h =
-    let e : length (take (length hist - 1) hist) ≡ length hist - 1 = length-take-le (length hist - 1) hist (omega arith) in
-    omega arith
+  pub before_last : i < length (take n hist) → (i + 1 < length hist) × (get_or (take n hist) i 0 ≡ get_or hist i 0)
+  before_last h = (omega (arith, first_length), get_or-take n hist i 0 (omega (arith, first_length)))
+
+  pub last_place : i ≤ length (take n hist) → length (take n hist) ≤ i → n ≡ i
+  last_place g h = omega (arith, first_length)
 
 -- ---- where the walk ends
 

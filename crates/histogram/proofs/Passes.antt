@@ -16,9 +16,8 @@ use Rattle.spec.specs.Refusals.{decibel_refused, decibels_refused}
 use Rattle.spec.specs.Strongest.{is_new_max, strongest_from, strongest}
 use Rattle.raster.proofs.Bands.{next_off, next_on, drop_end, pixels-length}
 use Rattle.raster.proofs.Passes.{any_here, any_not_here, any_none}
-use Rattle.histogram.specs.Extremes.{with_extreme, extremes_from}
 use Rattle.histogram.specs.Gathered.{IsCallableAlong, LeadsTo, Gathers}
-use Rattle.histogram.specs.Passes.{passed, first_pass, extremes, placed_pass}
+use Rattle.histogram.specs.Passes.{passed, placed_pass}
 
 -- ---- one turn
 
@@ -103,47 +102,38 @@ none_counted s e = ap (λ (t : Moments). t.count) e
 
 -- ---- what a pass comes to whose step is a function
 
--- where its step leads to g alone
-passed_is : {S : Type 0} (post : S → Float → ℕ → S → Type 0) (start : S) (px : List Pixel) (r : Option S) (g : S) → ((t : S) → LeadsTo post start 0 px t → t ≡ g) →
-    Gathers post start px r → r ≡ passed px g
-unfolding passed
-passed_is post start px None g is h = rw h
-passed_is post start px (Some t) g is h = rw h.0 (ap Some (is t h.1))
+-- the function f, and g, what f makes of the pixels from a place on
+module _ {S : Type 0} (post : S → Float → ℕ → S → Type 0) (f : S → Float → ℕ → S) (g : S → ℕ → List Pixel → S)
+    (at_end : (s : S) (i : ℕ) → g s i [] ≡ s)
+    (at_off : (s : S) (i : ℕ) (px : List Pixel) → g s i (off ∷ px) ≡ g s (suc i) px)
+    (at_on : (s : S) (i : ℕ) (v : Float) (px : List Pixel) → g s i (on v ∷ px) ≡ g (f s v i) (suc i) px)
+    (is : (s : S) (v : Float) (i : ℕ) (t : S) → post s v i t → t ≡ f s v i) where
+  leads_is : (s : S) (i : ℕ) (px : List Pixel) (t : S) → LeadsTo post s i px t → t ≡ g s i px
+  unfolding LeadsTo
+  leads_is s i [] t h = sym (at_end s i ∙ h)
+  leads_is s i (off ∷ px) t h = leads_is s (suc i) px t h ∙ sym (at_off s i px)
+  leads_is s i (on v ∷ px) t h = leads_is h.0 (suc i) px t h.2 ∙ ap (λ (u : S). g u (suc i) px) (is s v i h.0 h.1) ∙ sym (at_on s i v px)
 
--- the moments
-module _ (post : Moments → Float → ℕ → Moments → Type 0) (is : (s : Moments) (v : Float) (i : ℕ) (t : Moments) → post s v i t → t ≡ with_value s v) where
-  leads_moments : (s : Moments) (i : ℕ) (px : List Pixel) (t : Moments) → LeadsTo post s i px t → t ≡ moments_from s (valid_of px)
-  unfolding LeadsTo moments_from valid_of
-  leads_moments s i [] t h = sym h
-  leads_moments s i (off ∷ px) t h = leads_moments s (suc i) px t h
-  leads_moments s i (on v ∷ px) t h = leads_moments h.0 (suc i) px t h.2 ∙ ap (λ (u : Moments). moments_from u (valid_of px)) (is s v i h.0 h.1)
+  pass_is : (s : S) (px : List Pixel) (r : Option S) → Gathers post s px r → r ≡ passed px (g s 0 px)
+  unfolding passed
+  pass_is s px None h = rw h
+  pass_is s px (Some t) h = rw h.0 (ap Some (leads_is s 0 px t h.1))
 
-  pub first_pass_is : (s : Moments) → s ≡ no_moments → (px : List Pixel) (r : Option Moments) → Gathers post s px r → r ≡ first_pass px
-  unfolding first_pass
-  first_pass_is s e px r h = passed_is post s px r (moments_from no_moments (valid_of px)) (λ t l. leads_moments s 0 px t l ∙ rw e) h
-
--- the extremes
-module _ (post : Moments → Float → ℕ → Moments → Type 0) (is : (s : Moments) (v : Float) (i : ℕ) (t : Moments) → post s v i t → t ≡ with_extreme s v) where
-  leads_extremes : (s : Moments) (i : ℕ) (px : List Pixel) (t : Moments) → LeadsTo post s i px t → t ≡ extremes_from s (valid_of px)
-  unfolding LeadsTo extremes_from valid_of
-  leads_extremes s i [] t h = sym h
-  leads_extremes s i (off ∷ px) t h = leads_extremes s (suc i) px t h
-  leads_extremes s i (on v ∷ px) t h = leads_extremes h.0 (suc i) px t h.2 ∙ ap (λ (u : Moments). extremes_from u (valid_of px)) (is s v i h.0 h.1)
-
-  pub extremes_is : (s : Moments) → s ≡ no_moments → (px : List Pixel) (r : Option Moments) → Gathers post s px r → r ≡ extremes px
-  unfolding extremes
-  extremes_is s e px r h = passed_is post s px r (extremes_from no_moments (valid_of px)) (λ t l. leads_extremes s 0 px t l ∙ rw e) h
+-- moments by a fold g of the values, whose step is f
+pub values_is : (f : Moments → Float → Moments) (g : Moments → List Float → Moments) → ((m : Moments) → g m [] ≡ m) → ((m : Moments) (v : Float) (vs : List Float) → g m (v ∷ vs) ≡ g (f m v) vs) →
+    (post : Moments → Float → ℕ → Moments → Type 0) → ((s : Moments) (v : Float) (i : ℕ) (t : Moments) → post s v i t → t ≡ f s v) →
+    (s : Moments) → s ≡ no_moments → (px : List Pixel) (r : Option Moments) → Gathers post s px r → r ≡ passed px (g no_moments (valid_of px))
+unfolding valid_of
+values_is f g at_end at_on post is s e px r h =
+    pass_is post (λ m v i. f m v) (λ m i ps. g m (valid_of ps)) (λ m i. at_end m) (λ m i ps. refl) (λ m i v ps. at_on m v (valid_of ps)) is s px r h
+    ∙ ap (λ (m : Moments). passed px (g m (valid_of px))) e
 
 -- the moments and the place of the first maximum
-module _ (post : Moments × ℕ → Float → ℕ → Moments × ℕ → Type 0)
-    (is : (s : Moments × ℕ) (v : Float) (i : ℕ) (t : Moments × ℕ) → post s v i t → t ≡ (with_value s.0 v, cond (is_new_max s.0 v) i s.1)) where
-  leads_placed : (s : Moments × ℕ) (i : ℕ) (px : List Pixel) (t : Moments × ℕ) → LeadsTo post s i px t → t ≡ (moments_from s.0 (valid_of px), strongest_from i s.0 s.1 px)
-  unfolding LeadsTo moments_from strongest_from valid_of
-  leads_placed s i [] t h = sym h
-  leads_placed s i (off ∷ px) t h = leads_placed s (suc i) px t h
-  leads_placed s i (on v ∷ px) t h =
-      leads_placed h.0 (suc i) px t h.2 ∙ ap (λ (u : Moments × ℕ). (moments_from u.0 (valid_of px), strongest_from (suc i) u.0 u.1 px)) (is s v i h.0 h.1)
-
-  pub placed_pass_is : (s : Moments) → s ≡ no_moments → (px : List Pixel) (r : Option (Moments × ℕ)) → Gathers post (s, 0) px r → r ≡ placed_pass px
-  unfolding placed_pass strongest
-  placed_pass_is s e px r h = passed_is post (s, 0) px r (moments_from no_moments (valid_of px), strongest px) (λ t l. leads_placed (s, 0) 0 px t l ∙ rw e) h
+pub placed_pass_is : (post : Moments × ℕ → Float → ℕ → Moments × ℕ → Type 0) →
+    ((s : Moments × ℕ) (v : Float) (i : ℕ) (t : Moments × ℕ) → post s v i t → t ≡ (with_value s.0 v, cond (is_new_max s.0 v) i s.1)) →
+    (s : Moments) → s ≡ no_moments → (px : List Pixel) (r : Option (Moments × ℕ)) → Gathers post (s, 0) px r → r ≡ placed_pass px
+unfolding placed_pass strongest moments_from strongest_from valid_of
+placed_pass_is post is s e px r h =
+    pass_is post (λ m v i. (with_value m.0 v, cond (is_new_max m.0 v) i m.1)) (λ m i ps. (moments_from m.0 (valid_of ps), strongest_from i m.0 m.1 ps)) (λ m i. refl) (λ m i ps. refl)
+    (λ m i v ps. refl) is (s, 0) px r h
+    ∙ ap (λ (m : Moments). passed px (moments_from m (valid_of px), strongest_from 0 m 0 px)) e

@@ -1,14 +1,16 @@
 #![tactic(auto)]
 // The statistics of a band: pass one, the bins, the percentiles, the record, and the calls for statistics and for the bins.
-ghost use Rattle.std.specs.Prelude.{◌≡◌, ◌||◌, ◌∷◌, [], ◌<◌, ◌^◌, length};
-ghost use Rattle.spec.specs.Answer.{number, reply_number, first_of, after};
+ghost use Rattle.std.specs.Prelude.{◌≡◌, ◌||◌, ◌∷◌, [], length, IfOk};
+ghost use Rattle.spec.specs.Answer.{number, reply_number, read, first_of, after};
 ghost use Rattle.spec.specs.Curve.{compute_histogram};
-ghost use Rattle.spec.specs.Pixels.{pixels, valid_of};
+ghost use Rattle.spec.specs.Pixels.{valid_of};
 ghost use Rattle.spec.specs.Refusals.{sides_refused, lengths_refused, unlike, marks_refused};
 ghost use Rattle.spec.specs.Percentile.{estimate_percentile};
-ghost use Rattle.spec.specs.Statistics.{deviation_of, gathered, summary, compute_histogram_stats, read_statistics};
+ghost use Rattle.spec.specs.Statistics.{deviation_of, gathered, summary, compute_histogram_stats};
+ghost use Rattle.raster.specs.Bands.{pixels_of};
 
-use types::{HistogramStats, Moments, Place, Reply, StatisticsAnswer};
+use raster::{CountedBand, Raster};
+use types::{HistogramStats, Moments, Place, Refusal, Sides};
 
 mod bins;
 pub mod moments;
@@ -22,7 +24,7 @@ fn deviation_of(m: Moments) -> f64
     ensures { result ≡ deviation_of m }
 {
     if m.count > 1 {
-        numeric::sqrt_f64(m.m2 / (m.count as f64))
+        numeric::sqrt_f64(m.m2 / f64::from(m.count))
     } else {
         0.0
     }
@@ -30,8 +32,7 @@ fn deviation_of(m: Moments) -> f64
 
 // The record from moments and bins.
 #[tactic(auto, unfolding(spec::specs::Statistics::gathered))]
-fn stats_from_bins(m: Moments, place: Place, hist: &[u32]) -> HistogramStats
-    requires { length hist.now ≡ 4096 }
+fn stats_from_bins(m: Moments, place: Place, hist: &[u32; 4096]) -> HistogramStats
     ensures { result ≡ gathered m place (estimate_percentile m hist.now) }
 {
     let at = |p| percentile::estimate_percentile(m, hist, p);
@@ -62,12 +63,12 @@ fn stats_from_bins(m: Moments, place: Place, hist: &[u32]) -> HistogramStats
 }
 
 // The record of a band whose moments are known, and the place of its maximum; nothing is refused here.
-pub fn summary(db: &[f64], valid_mask: &[u8], m: Moments, place: Place) -> HistogramStats
-    requires { (length valid_mask.now ≡ length db.now) × (length db.now < 2 ^ 32) × (m.count ≡ length (valid_of (pixels valid_mask.now db.now))) }
-    ensures { result ≡ summary m place (valid_of (pixels valid_mask.now db.now)) }
+pub fn summary(band: &CountedBand, m: Moments, place: Place) -> HistogramStats
+    requires { m.count ≡ length (valid_of (pixels_of band.now.pixels)) }
+    ensures { result ≡ summary m place (valid_of (pixels_of band.now.pixels)) }
 {
     let mut hist: [u32; 4096] = [0; 4096];
-    bins::count_bins(db, valid_mask, m, &mut hist);
+    bins::count_bins(band, m, &mut hist);
     stats_from_bins(m, place, &hist)
 }
 
@@ -77,38 +78,38 @@ pub fn compute_histogram_stats(
     cols: usize,
     db: &[f64],
     valid_mask: &[u8],
-) -> StatisticsAnswer
-    ensures { read_statistics result ≡ compute_histogram_stats rows cols valid_mask.now db.now }
+) -> Result<HistogramStats, Refusal>
+    ensures { read result ≡ compute_histogram_stats rows cols valid_mask.now db.now }
 {
-    let refusal = raster::shape_refusal(rows, cols, db, valid_mask);
-    if refusal != 0 {
-        return StatisticsAnswer::Refused(refusal);
-    }
-    let Some((m, at)) = place::placed_pass(db, valid_mask) else {
-        return StatisticsAnswer::Refused(4);
+    let raster = Raster::accepted(Sides { rows, cols }, db, valid_mask)?;
+    let band = raster.counted();
+    let Some((m, at)) = place::placed_pass(&band) else {
+        return Err(Refusal::Decibels);
     };
-    StatisticsAnswer::Statistics(summary(db, valid_mask, m, place::place_in(cols, at)))
+    Ok(summary(&band, m, place::place_in(cols, at)))
 }
 
-// The smallest of the numbers 1 to 3 that applies to the call for the bins, 0 if none does.
-fn bins_refusal(rows: usize, cols: usize, db: &[f64], valid_mask: &[u8], out: usize) -> u8
-    ensures { result ≡ first_of 1 (
-        sides_refused rows cols ∷ (lengths_refused rows cols valid_mask.now db.now || unlike out 4096)
+// The raster of the call for the bins, whose list is `out` long: refusals 1 to 3.
+#[tactic(auto, unfolding(spec::specs::Answer::reply_number, types::specs::Replies::refusal_number, spec::specs::Answer::first_of, spec::specs::Refusals::unlike))]
+fn bins_raster<'a>(
+    sides: Sides,
+    db: &'a [f64],
+    valid_mask: &'a [u8],
+    out: usize,
+) -> Result<Raster<'a>, Refusal>
+    ensures reply { reply_number result ≡ first_of 1 (
+        sides_refused sides.rows sides.cols ∷ (lengths_refused sides.rows sides.cols valid_mask.now db.now || unlike out 4096)
         ∷ marks_refused valid_mask.now ∷ []) }
+    ensures raster { IfOk result (λ raster. (raster.band.db.now ≡ db.now) × (raster.band.valid_mask.now ≡ valid_mask.now) × (out ≡ 4096)) }
 {
-    if raster::sides_refused(rows, cols) {
-        return 1;
-    }
-    if raster::lengths_refused(rows, cols, db, valid_mask) {
-        return 2;
-    }
+    let raster = Raster::new(sides, db, valid_mask)?;
     if out != 4096 {
-        return 2;
+        return Err(Refusal::Lengths);
     }
     if raster::marks_refused(valid_mask) {
-        return 3;
+        return Err(Refusal::Marks);
     }
-    0
+    Ok(raster)
 }
 
 // The call for the bins, 4,096 counts of the valid dB between the least and the greatest: refusals 1 to 4, then the counts.
@@ -118,18 +119,20 @@ pub fn compute_histogram(
     db: &[f64],
     valid_mask: &[u8],
     hist: &mut [u32],
-) -> Reply
+) -> Result<(), Refusal>
     ensures result_value { reply_number result ≡ number (compute_histogram rows cols valid_mask.now db.now (length hist.old)) }
     ensures hist_after { hist.new ≡ after (λ l. l) (compute_histogram rows cols valid_mask.now db.now (length hist.old)) hist.old }
 {
-    let refusal = bins_refusal(rows, cols, db, valid_mask, hist.len());
-    if refusal != 0 {
-        return Reply::Refused(refusal);
-    }
-    let Some(m) = moments::extremes(db, valid_mask) else {
-        return Reply::Refused(4);
+    let raster = bins_raster(Sides { rows, cols }, db, valid_mask, hist.len())?;
+    let band = raster.counted();
+    let Some(m) = moments::extremes(&band) else {
+        return Err(Refusal::Decibels);
     };
     hist.fill(0);
-    bins::count_bins(db, valid_mask, m, hist);
-    Reply::Done
+    // The bins as an array, so that no contract below says their length. By the raster they always are one.
+    let Some(hist) = hist.as_mut_array::<4096>() else {
+        return Err(Refusal::Lengths);
+    };
+    bins::count_bins(&band, m, hist);
+    Ok(())
 }

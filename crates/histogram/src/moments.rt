@@ -1,12 +1,13 @@
 // Pass one: count, least and greatest, Welford's mean and m2, in raster order.
-ghost use Rattle.std.specs.Prelude.{◌≡◌, ◌+◌, ◌<◌, ◌^◌, cond, ◌||◌, length};
+ghost use Rattle.std.specs.Prelude.{◌≡◌, ◌+◌, ◌<◌, ◌^◌, cond, ◌||◌};
 ghost use Rattle.std.specs.Float.Ieee.{lt};
 ghost use Rattle.spec.specs.Moments.{no_moments, with_value, is_flat};
-ghost use Rattle.spec.specs.Pixels.{pixels};
+ghost use Rattle.raster.specs.Bands.{pixels_of};
 ghost use Rattle.histogram.specs.Extremes.{with_extreme};
 ghost use Rattle.histogram.specs.Passes.{first_pass, extremes};
 
 use super::pass;
+use raster::CountedBand;
 use types::Moments;
 
 // Before the first value.
@@ -61,7 +62,7 @@ pub(crate) fn with_value(m: Moments, v: f64) -> Moments
 {
     let next = with_extreme(m, v);
     let delta = v - m.mean;
-    let mean = m.mean + delta / (next.count as f64);
+    let mean = m.mean + delta / f64::from(next.count);
     let delta2 = v - mean;
     Moments {
         mean,
@@ -79,17 +80,15 @@ pub(crate) fn is_flat(m: Moments) -> bool
 }
 
 // The moments of the valid dB, unless one of them is refused.
-pub fn first_pass(db: &[f64], valid_mask: &[u8]) -> Option<Moments>
-    requires { (length valid_mask.now ≡ length db.now) × (length db.now < 2 ^ 32) }
-    ensures { result ≡ first_pass (pixels valid_mask.now db.now) }
+pub fn first_pass(band: &CountedBand) -> Option<Moments>
+    ensures { result ≡ first_pass (pixels_of band.now.pixels) }
 {
-    pass::gather_valid(db, valid_mask, no_moments(), |m, v, _| with_value(m, v))
+    pass::gather_valid(&band.pixels, no_moments(), |m, v, _| with_value(m, v))
 }
 
 // The same with mean and m2 left at 0, for those who read neither.
-pub fn extremes(db: &[f64], valid_mask: &[u8]) -> Option<Moments>
-    requires { (length valid_mask.now ≡ length db.now) × (length db.now < 2 ^ 32) }
-    ensures { result ≡ extremes (pixels valid_mask.now db.now) }
+pub fn extremes(band: &CountedBand) -> Option<Moments>
+    ensures { result ≡ extremes (pixels_of band.now.pixels) }
 {
-    pass::gather_valid(db, valid_mask, no_moments(), |m, v, _| with_extreme(m, v))
+    pass::gather_valid(&band.pixels, no_moments(), |m, v, _| with_extreme(m, v))
 }

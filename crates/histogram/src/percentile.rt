@@ -1,5 +1,5 @@
 // A percentile: the first bin whose running count exceeds the target, and the value at the target's rank in it.
-ghost use Rattle.std.specs.Prelude.{◌≡◌, ◌<◌, ◌^◌, length};
+ghost use Rattle.std.specs.Prelude.{◌≡◌, ◌<◌, ◌^◌};
 ghost use Rattle.spec.specs.Percentile.{target_of, find_bin, value_at, flat_percentile, spread_percentile, estimate_percentile};
 
 use super::moments;
@@ -11,13 +11,13 @@ use types::{BinRank, Moments, Percentile};
 fn target_of(p: f64, count: u32) -> u64
     ensures { result ≡ target_of p count }
 {
-    let place = (p * (count as f64)).as_u64();
+    let place = (p * f64::from(count)).as_u64();
     place.min(u64::from(count.saturating_sub(1)))
 }
 
 // "take the first bin whose running count exceeds the target": the last bin if none does.
-fn find_bin(hist: &[u32], target: u64) -> BinRank
-    requires { (length hist.now ≡ 4096) × (target < 2 ^ 32) }
+fn find_bin(hist: &[u32; 4096], target: u64) -> BinRank
+    requires { target < 2 ^ 32 }
     ensures { result ≡ find_bin target 0 0 hist.now }
 {
     let last = hist.len() - 1;
@@ -48,8 +48,8 @@ fn value_at(min_db: f64, bin_width: f64, found: BinRank) -> f64
 {
     let bin = found.bin as u32;
     let within = found.rank as u32;
-    let bin_start = min_db + (bin as f64) * bin_width;
-    let frac = (within as f64) / (found.size as f64);
+    let bin_start = min_db + f64::from(bin) * bin_width;
+    let frac = f64::from(within) / f64::from(found.size);
     bin_start + frac * bin_width
 }
 
@@ -82,8 +82,7 @@ fn spread_percentile(m: Moments, found: BinRank) -> Percentile
 }
 
 // The percentile of fraction p of values with these moments and bins.
-pub(crate) fn estimate_percentile(m: Moments, hist: &[u32], p: f64) -> Percentile
-    requires { length hist.now ≡ 4096 }
+pub(crate) fn estimate_percentile(m: Moments, hist: &[u32; 4096], p: f64) -> Percentile
     ensures { result ≡ estimate_percentile m hist.now p }
 {
     if moments::is_flat(m) {

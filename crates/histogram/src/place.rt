@@ -1,10 +1,11 @@
 // Where the strongest echo is: the place of the first valid maximum, kept by a first pass of its own.
-ghost use Rattle.std.specs.Prelude.{◌≡◌, cond, ◌<◌, ◌^◌, length};
-ghost use Rattle.spec.specs.Pixels.{pixels};
+ghost use Rattle.std.specs.Prelude.{◌≡◌, cond};
+ghost use Rattle.raster.specs.Bands.{pixels_of};
 ghost use Rattle.spec.specs.Strongest.{is_new_max, place_in};
 ghost use Rattle.histogram.specs.Passes.{placed_pass};
 
 use super::{moments, pass};
+use raster::CountedBand;
 use types::{Moments, Place};
 
 // The place of the first maximum with one value more, which stands at i.
@@ -16,13 +17,11 @@ fn place_met(m: Moments, at: usize, v: f64, i: usize) -> usize
 }
 
 // The first pass of the statistics call: it keeps the place too.
-pub(crate) fn placed_pass(db: &[f64], valid_mask: &[u8]) -> Option<(Moments, usize)>
-    requires { (length valid_mask.now ≡ length db.now) × (length db.now < 2 ^ 32) }
-    ensures { result ≡ placed_pass (pixels valid_mask.now db.now) }
+pub(crate) fn placed_pass(band: &CountedBand) -> Option<(Moments, usize)>
+    ensures { result ≡ placed_pass (pixels_of band.now.pixels) }
 {
     pass::gather_valid(
-        db,
-        valid_mask,
+        &band.pixels,
         (moments::no_moments(), 0),
         |(m, at), v, i| (moments::with_value(m, v), place_met(m, at, v, i)),
     )

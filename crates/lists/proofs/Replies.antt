@@ -1,14 +1,55 @@
 -- A call that refuses by a number or is done: its reply, its lent list, and what is known where no number applies. Assumes nothing.
 use mathlib.Core.Path.{◌≡◌, refl, sym, ap}
-use mathlib.Core.Bool.{Bool, true, false, not, ◌||◌, true≢false}
+use mathlib.Core.Bool.{Bool, true, false, cond, not, ◌||◌, true≢false}
 use mathlib.Core.List.{List, [], ◌∷◌}
 use Prim.Native.Nat.{ℕ, zero, suc, ◌≤◌, ◌<◌}
 use native.Mathlib.Nat.{not-suc-le-zero}
 use native.Mathlib.Omega.{arith}
 use borrow.Author.Tests.{eqb-true, not-false, eq-eqb, ne_eqb}
 use lib.Dec.{eqb}
-use Rattle.spec.specs.Answer.{Answer, refused, done, answer, or_refused, first_of, number, after}
+use Rattle.std.specs.Prelude.{Result, Ok, Err}
+use Rattle.std.specs.Result.{IsErrAnd}
+use Rattle.types.specs.declared.refusal.Refusal.{Refusal}
+use Rattle.types.specs.declared.refusal.Refusal.TheVariants.{Sides, Lengths, Marks, Decibels, Tiles, Gamma}
+use Rattle.types.specs.Replies.{refusal_number}
+use Rattle.spec.specs.Answer.{Answer, refused, done, answer, or_refused, first_of, number, after, reply_number}
 use Rattle.spec.specs.Refusals.{unlike}
+
+-- a refusal has a number
+pub refusal-above : (refusal : Refusal) → 0 < refusal_number refusal
+unfolding refusal_number
+refusal-above Sides = omega arith
+refusal-above Lengths = omega arith
+refusal-above Marks = omega arith
+refusal-above Decibels = omega arith
+refusal-above Tiles = omega arith
+refusal-above Gamma = omega arith
+
+pub refusal-not_zero : (refusal : Refusal) → refusal_number refusal ≡ 0 → ⊥
+refusal-not_zero refusal e = omega (arith, e, refusal-above refusal)
+
+-- what is known of a reply by its two cases
+pub when_ok : {A : Type 0} (a : A) (k : ℕ) → reply_number (Ok a) ≡ k → k ≡ 0
+unfolding reply_number
+when_ok a k e = sym e
+
+pub when_err : (A : Type 0) (refusal : Refusal) (k : ℕ) → reply_number {A = A} (Err refusal) ≡ k → refusal_number refusal ≡ k
+unfolding reply_number
+when_err A refusal k e = e
+
+-- a value, or a refusal where b holds
+pub err_by : {A : Type 0} (b : Bool) (a : A) (e k : Refusal) → cond b (Err e) (Ok a) ≡ Err k → (b ≡ true) × (e ≡ k)
+err_by true a e k q = (refl, cc)
+err_by false a e k q = absurd (let z : ◌≡◌ {A = ℕ} 0 1 = cc in omega arith)
+
+pub ok_by : {A : Type 0} (b : Bool) (a w : A) (e : Refusal) → cond b (Err e) (Ok a) ≡ Ok w → (b ≡ false) × (a ≡ w)
+ok_by true a w e q = absurd (let z : ◌≡◌ {A = ℕ} 0 1 = cc in omega arith)
+ok_by false a w e q = (refl, cc)
+
+-- what a `?` hands on
+pub passed_on : {A : Type 0} (r : Result A Refusal) (refusal : Refusal) → IsErrAnd r (λ e. e ≡ refusal) → r ≡ Err refusal
+passed_on (Ok a) refusal is = absurd is
+passed_on (Err e) refusal is = ap Err is
 
 module _ {A B : Type 0} (f : A → List B) (a : A) (old : List B) where
   -- what a call with the refusal m owes: the reply's number and the list afterwards

@@ -5,7 +5,7 @@ ghost use Rattle.spec.specs.Answer.{first_of, number, reply_number, after};
 ghost use Rattle.spec.specs.Refusals.{too_long, unlike};
 ghost use Rattle.spec.specs.Marks.{mark_of, process_scalar_data_mask};
 
-use types::Reply;
+use types::Refusal;
 
 // The mark of one value: 0 for a NaN.
 #[tactic(auto, unfolding(spec::specs::Marks::mark_of))]
@@ -16,6 +16,7 @@ fn mark_of(x: f32) -> u8
 }
 
 // The mark of each value.
+// Kept: that the marks are as many is a clause, since a struct round the one lent output would have to be made at each call and say no more.
 fn fill_marks(processed: &[f32], valid_mask: &mut [u8])
     requires { length valid_mask.old ≡ length processed.now }
     ensures { valid_mask.new ≡ map mark_of processed.now }
@@ -25,30 +26,24 @@ fn fill_marks(processed: &[f32], valid_mask: &mut [u8])
     }
 }
 
-// The number that refuses the two lengths, or 0.
-#[tactic(auto, unfolding(spec::specs::Answer::first_of, spec::specs::Refusals::too_long, spec::specs::Refusals::unlike))]
-fn refusal(processed: usize, valid_mask: usize) -> u8
-    ensures { result ≡ first_of 2 ((too_long processed || unlike valid_mask processed) ∷ []) }
+// Refuses a list that is too long, and marks that are not as many.
+#[tactic(auto, unfolding(spec::specs::Answer::reply_number, types::specs::Replies::refusal_number, spec::specs::Answer::first_of, spec::specs::Refusals::too_long, spec::specs::Refusals::unlike))]
+fn refusal(processed: usize, valid_mask: usize) -> Result<(), Refusal>
+    ensures { reply_number result ≡ first_of 2 ((too_long processed || unlike valid_mask processed) ∷ []) }
 {
-    if processed > 16777216 {
-        return 2;
+    if processed > 16777216 || valid_mask != processed {
+        return Err(Refusal::Lengths);
     }
-    if valid_mask != processed {
-        return 2;
-    }
-    0
+    Ok(())
 }
 
 // The marks of a whole list.
-#[tactic(auto, unfolding(spec::specs::Marks::process_scalar_data_mask, spec::specs::Answer::first_of, spec::specs::Answer::or_refused, spec::specs::Answer::answer, spec::specs::Answer::number, spec::specs::Answer::reply_number, spec::specs::Answer::after, spec::specs::Refusals::too_long, spec::specs::Refusals::unlike))]
-pub fn process_scalar_data_mask(processed: &[f32], valid_mask: &mut [u8]) -> Reply
+#[tactic(auto, unfolding(spec::specs::Marks::process_scalar_data_mask, spec::specs::Answer::first_of, spec::specs::Answer::or_refused, spec::specs::Answer::answer, spec::specs::Answer::number, spec::specs::Answer::reply_number, types::specs::Replies::refusal_number, spec::specs::Answer::after, spec::specs::Refusals::too_long, spec::specs::Refusals::unlike))]
+pub fn process_scalar_data_mask(processed: &[f32], valid_mask: &mut [u8]) -> Result<(), Refusal>
     ensures reply { reply_number result ≡ number (process_scalar_data_mask processed.now (length valid_mask.old)) }
     ensures marks { valid_mask.new ≡ after (λ l. l) (process_scalar_data_mask processed.now (length valid_mask.old)) valid_mask.old }
 {
-    let refused = refusal(processed.len(), valid_mask.len());
-    if refused > 0 {
-        return Reply::Refused(refused);
-    }
+    refusal(processed.len(), valid_mask.len())?;
     fill_marks(processed, valid_mask);
-    Reply::Done
+    Ok(())
 }

@@ -175,6 +175,7 @@ impl Binary for f32 {
 }
 
 // The whole number nearest to an x from 0.0 to 65535.0, as a float and as an integer: 2^52 added and taken off leaves it.
+// Kept: these bounds of x are clauses of the four steps here; a struct of one float would be made just before each call and say no more.
 fn near(x: f64) -> (f64, u32)
     requires fact_1 { T (le zero64 x) }
     requires fact_2 { T (le x full16) }

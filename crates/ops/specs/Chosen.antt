@@ -1,4 +1,5 @@
--- The operation that a `PolarizationOperation` names. Definitions only.
+-- The operation that a `PolarizationOperation` names, and what keeps a rule. Definitions only.
+use mathlib.Core.Path.{◌≡◌}
 use Rattle.std.specs.Prelude.{Float}
 use Rattle.types.specs.declared.PolarizationOperation.{PolarizationOperation}
 use Rattle.types.specs.declared.PolarizationOperation.TheVariants.{Sum, Diff, Ratio, NDiff, LogRatio}
@@ -10,3 +11,7 @@ operate Diff = difference_op
 operate Ratio = ratio_op
 operate NDiff = normalized_diff_op
 operate LogRatio = log_ratio_op
+
+-- what gives each pair of values a value keeps the rule
+abbrev pub Keeps : (Float → Float → Float → Type 0) → (Float → Float → Float) → Type 0
+Keeps gives rule = (x y z : Float) → gives x y z → z ≡ rule x y

@@ -1,14 +1,14 @@
 #![tactic(auto)]
 // The operations of ops.rs: two lists of f32, value by value, into a lent list.
-ghost use Rattle.std.specs.Prelude.{◌≡◌, ◌||◌, length};
+ghost use Rattle.std.specs.Prelude.{◌≡◌, ◌||◌, length, Float};
 ghost use mathlib.Core.List.{[], ◌∷◌, zip_with};
 ghost use Rattle.spec.specs.Answer.{first_of, number, reply_number, after};
 ghost use Rattle.spec.specs.Refusals.{too_long, unlike};
 ghost use Rattle.spec.specs.Ops.{sum_op, difference_op, guarded_ratio, ratio_op, log_ratio_op, normalized_diff_op, operate_arrays};
-ghost use Rattle.ops.specs.Chosen.{operate};
+ghost use Rattle.ops.specs.Chosen.{operate, Keeps};
 
 use numeric::Binary;
-use types::{PolarizationOperation, Reply};
+use types::{PolarizationOperation, Refusal};
 
 // a over b, or 0 unless the size of b exceeds 1e-10.
 #[tactic(auto, unfolding(spec::specs::Ops::guarded_ratio, spec::specs::Floats::abs_float))]
@@ -18,61 +18,56 @@ fn guarded_ratio(a: f32, b: f32) -> f32
     if Binary::abs(b) > 1e-10 { a / b } else { 0.0 }
 }
 
-// The operation on one value of each list.
-fn operate(operation: PolarizationOperation, a: f32, b: f32) -> f32
-    ensures { result ≡ operate operation a b }
-{
-    match operation {
-        PolarizationOperation::Sum => a + b,
-        PolarizationOperation::Diff => a - b,
-        PolarizationOperation::Ratio => guarded_ratio(a, b),
-        PolarizationOperation::NDiff => guarded_ratio(a - b, a + b),
-        PolarizationOperation::LogRatio => guarded_ratio(a, b),
-    }
-}
-
-// The operation on lists of one length.
-fn fill(operation: PolarizationOperation, a: &[f32], b: &[f32], out: &mut [f32])
-    requires { (length out.old ≡ length a.now) × (length b.now ≡ length a.now) }
-    ensures { out.new ≡ zip_with (operate operation) a.now b.now }
+// Writes what the step gives of each two values: whatever rule the step keeps, the values are those of the rule.
+// Kept: that the lists are of one length is a clause, since a struct round the one lent output would have to be made at each call and say no more.
+fn fill<F: Fn(f32, f32) -> f32>(a: &[f32], b: &[f32], out: &mut [f32], step: F)
+    requires callable { F.IsAlwaysCallable step }
+    requires sized { (length out.old ≡ length a.now) × (length b.now ≡ length a.now) }
+    ensures { (rule : Float → Float → Float) → Keeps (F.post step) rule → out.new ≡ zip_with rule a.now b.now }
 {
     for (i, x) in a.iter().enumerate() {
-        out[i] = operate(operation, *x, b[i]);
+        out[i] = step(*x, b[i]);
     }
 }
 
-// The number that refuses the three lengths, or 0.
-#[tactic(auto, unfolding(spec::specs::Answer::first_of, spec::specs::Refusals::too_long, spec::specs::Refusals::unlike))]
-fn refusal(a: usize, b: usize, out: usize) -> u8
-    ensures { result ≡ first_of 2 ((unlike b a || too_long a || unlike out a) ∷ []) }
+// Refuses lists of other lengths than the first one's, and lists that are too long.
+#[tactic(auto, unfolding(spec::specs::Answer::reply_number, types::specs::Replies::refusal_number, spec::specs::Answer::first_of, spec::specs::Refusals::too_long, spec::specs::Refusals::unlike))]
+fn refusal(a: usize, b: usize, out: usize) -> Result<(), Refusal>
+    ensures { reply_number result ≡ first_of 2 ((unlike b a || too_long a || unlike out a) ∷ []) }
 {
-    if b != a {
-        return 2;
+    if b != a || a > 16777216 || out != a {
+        return Err(Refusal::Lengths);
     }
-    if a > 16777216 {
-        return 2;
-    }
-    if out != a {
-        return 2;
-    }
-    0
+    Ok(())
 }
 
 // The operation on whole lists.
-fn operate_arrays(operation: PolarizationOperation, a: &[f32], b: &[f32], out: &mut [f32]) -> Reply
+#[tactic(auto, unfolding(spec::specs::Ops::operate_arrays, spec::specs::Answer::first_of, spec::specs::Answer::or_refused, spec::specs::Answer::answer, spec::specs::Answer::number, spec::specs::Answer::reply_number, types::specs::Replies::refusal_number, spec::specs::Answer::after, spec::specs::Refusals::too_long, spec::specs::Refusals::unlike, spec::specs::Ops::sum_op, spec::specs::Ops::difference_op, spec::specs::Ops::ratio_op, spec::specs::Ops::log_ratio_op, spec::specs::Ops::normalized_diff_op))]
+fn operate_arrays(
+    operation: PolarizationOperation,
+    a: &[f32],
+    b: &[f32],
+    out: &mut [f32],
+) -> Result<(), Refusal>
     ensures reply { reply_number result ≡ number (operate_arrays (operate operation) a.now b.now (length out.old)) }
     ensures values { out.new ≡ after (λ l. l) (operate_arrays (operate operation) a.now b.now (length out.old)) out.old }
 {
-    let refused = refusal(a.len(), b.len(), out.len());
-    if refused > 0 {
-        return Reply::Refused(refused);
+    refusal(a.len(), b.len(), out.len())?;
+    match operation {
+        PolarizationOperation::Sum => fill(a, b, out, |x, y| x + y),
+        PolarizationOperation::Diff => fill(a, b, out, |x, y| x - y),
+        PolarizationOperation::Ratio | PolarizationOperation::LogRatio => {
+            fill(a, b, out, guarded_ratio);
+        }
+        PolarizationOperation::NDiff => fill(a, b, out, |x, y| guarded_ratio(x - y, x + y)),
     }
-    fill(operation, a, b, out);
-    Reply::Done
+    Ok(())
 }
 
+// Kept: a call for each operation, as the archive has them, since C has no generic functions.
+
 // a + b.
-pub fn sum_arrays(a: &[f32], b: &[f32], out: &mut [f32]) -> Reply
+pub fn sum_arrays(a: &[f32], b: &[f32], out: &mut [f32]) -> Result<(), Refusal>
     ensures reply { reply_number result ≡ number (operate_arrays sum_op a.now b.now (length out.old)) }
     ensures values { out.new ≡ after (λ l. l) (operate_arrays sum_op a.now b.now (length out.old)) out.old }
 {
@@ -80,7 +75,7 @@ pub fn sum_arrays(a: &[f32], b: &[f32], out: &mut [f32]) -> Reply
 }
 
 // a - b.
-pub fn difference_arrays(a: &[f32], b: &[f32], out: &mut [f32]) -> Reply
+pub fn difference_arrays(a: &[f32], b: &[f32], out: &mut [f32]) -> Result<(), Refusal>
     ensures reply { reply_number result ≡ number (operate_arrays difference_op a.now b.now (length out.old)) }
     ensures values { out.new ≡ after (λ l. l) (operate_arrays difference_op a.now b.now (length out.old)) out.old }
 {
@@ -88,7 +83,7 @@ pub fn difference_arrays(a: &[f32], b: &[f32], out: &mut [f32]) -> Reply
 }
 
 // a / b, or 0 at a small divisor.
-pub fn ratio_arrays(a: &[f32], b: &[f32], out: &mut [f32]) -> Reply
+pub fn ratio_arrays(a: &[f32], b: &[f32], out: &mut [f32]) -> Result<(), Refusal>
     ensures reply { reply_number result ≡ number (operate_arrays ratio_op a.now b.now (length out.old)) }
     ensures values { out.new ≡ after (λ l. l) (operate_arrays ratio_op a.now b.now (length out.old)) out.old }
 {
@@ -96,7 +91,7 @@ pub fn ratio_arrays(a: &[f32], b: &[f32], out: &mut [f32]) -> Reply
 }
 
 // (a - b) / (a + b), or 0 at a small divisor.
-pub fn normalized_diff_arrays(a: &[f32], b: &[f32], out: &mut [f32]) -> Reply
+pub fn normalized_diff_arrays(a: &[f32], b: &[f32], out: &mut [f32]) -> Result<(), Refusal>
     ensures reply { reply_number result ≡ number (operate_arrays normalized_diff_op a.now b.now (length out.old)) }
     ensures values { out.new ≡ after (λ l. l) (operate_arrays normalized_diff_op a.now b.now (length out.old)) out.old }
 {
@@ -104,7 +99,7 @@ pub fn normalized_diff_arrays(a: &[f32], b: &[f32], out: &mut [f32]) -> Reply
 }
 
 // The same as the ratio.
-pub fn log_ratio_arrays(a: &[f32], b: &[f32], out: &mut [f32]) -> Reply
+pub fn log_ratio_arrays(a: &[f32], b: &[f32], out: &mut [f32]) -> Result<(), Refusal>
     ensures reply { reply_number result ≡ number (operate_arrays log_ratio_op a.now b.now (length out.old)) }
     ensures values { out.new ≡ after (λ l. l) (operate_arrays log_ratio_op a.now b.now (length out.old)) out.old }
 {

@@ -11,8 +11,6 @@ use lib.Dec.{leb, ltb}
 use lib.ListN.{length, take, drop, get_or, replicate, length-take, length-drop, length-replicate, get_or-replicate}
 use lib.Seq.{paste, ext_get_or, get_or-take, get_or-drop, length-paste}
 use Rattle.spec.specs.Padding.{pad_cell, padded}
-use Rattle.padding.specs.Offsets.{row_start}
-use Rattle.padding.proofs.Lengths.{product}
 use Rattle.lists.proofs.Paste.{paste_in, paste_before, paste_after}
 use Rattle.lists.proofs.Places.{places-length, places-at}
 
@@ -32,14 +30,11 @@ module _ (rows cols : ℕ) where
 
   -- where row r of the raster starts in the square
   abbrev pub start : ℕ → ℕ
-  start r = row_start rows cols r
+  start r = (r + top) * side + left
 
-  -- a row of the raster lies within the raster, and a raster with narrow sides is short
+  -- a row of the raster lies within the raster
   pub row_room : (r : ℕ) → r < rows → r * cols + cols ≤ rows * cols
   row_room r h = omega (arith, mul-le-mul_right {m = suc r} {n = rows} cols h, suc-mul r cols)
-
-  pub row_short : (r : ℕ) → r < rows → rows ≤ 4096 → cols ≤ 4096 → r * cols + cols ≤ 16777216
-  row_short r h a b = omega (arith, row_room r h, product rows cols a b)
 
   -- and within the square
   pub room : (r : ℕ) → r < rows → start r + cols ≤ side * side

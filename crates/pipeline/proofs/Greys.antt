@@ -2,70 +2,68 @@
 use mathlib.Core.Path.{◌≡◌, refl, sym, ap, ◌∙◌}
 use mathlib.Core.Bool.{Bool, true, false, ◌||◌}
 use mathlib.Core.List.{List, [], ◌∷◌, ◌++◌, map}
-use Prim.Native.Nat.{ℕ, zero, suc, ◌*◌}
+use Prim.Native.Nat.{ℕ, ◌*◌}
 use borrow.Author.Tests.{not-false}
 use lib.ListN.{length}
 use lib.Ieee.{Float, ne}
 use Rattle.types.specs.declared.AutoscaleStrategy.{AutoscaleStrategy}
-use Rattle.types.specs.declared.AutoscaleStrategy.TheVariants.{Clahe}
-use Rattle.types.specs.declared.WindowAnswer.{WindowAnswer}
-use Rattle.types.specs.declared.WindowAnswer.TheVariants.{Window, Blank, Refused}
-use Rattle.spec.specs.Answer.{Answer, refused, done, first_of, or_refused, answer, number, after}
+use Rattle.types.specs.declared.Sides.{Sides}
+use Rattle.types.specs.declared.WindowFloats.{WindowFloats}
+use Rattle.types.specs.declared.refusal.Refusal.{Refusal}
+use Rattle.types.specs.Replies.{refusal_number}
+use Rattle.std.specs.Prelude.{Option, Some, None, Result, Ok, Err}
+use Rattle.spec.specs.Answer.{Answer, refused, done, first_of, answer, number, after, read}
 use Rattle.spec.specs.Pixels.{Pixel, pixels}
 use Rattle.spec.specs.Statistics.{statistics_of}
+use Rattle.spec.specs.Stretch.{stretch}
 use Rattle.spec.specs.Strategies.{is_clahe}
 use Rattle.spec.specs.Window.{window_of, gamma_refused}
-use Rattle.spec.specs.Refusals.{sides_refused, lengths_refused, unlike, work_refused}
+use Rattle.spec.specs.Refusals.{sides_refused, lengths_refused, unlike, work_refused, marks_refused, decibels_refused, tiles_refused}
 use Rattle.spec.specs.Clahe.{clahe_values}
 use Rattle.spec.specs.Gamma.{BitDepth, U8, U16, full_of}
-use Rattle.spec.specs.Grey.{normal_pixel, values, grey_tests}
+use Rattle.spec.specs.Grey.{normal_pixel, values}
 use Rattle.gamma.specs.Gammas.{usual}
 use Rattle.gamma.proofs.Gammas.{gammas}
 use Rattle.autoscale.specs.Painted.{plain_values, opens}
+use Rattle.raster.specs.declared.band.Raster.{Raster}
+use Rattle.raster.specs.Bands.{pixels_of, Holds}
 use Rattle.raster.proofs.Bands.{none_applies}
-use Rattle.pipeline.specs.Ready.{Ready}
-use Rattle.pipeline.specs.Windows.{unless, grey_window, grey_window16}
+use Rattle.pipeline.specs.Windows.{grey_window, grey_window16}
 use Rattle.pipeline.specs.Work.{uses, Kept}
-use Rattle.pipeline.proofs.Accepted.{grey_ready}
-use Rattle.pipeline.proofs.Windowed.{NotRefused, window_open}
+use Rattle.pipeline.proofs.Accepted.{held}
+use Rattle.lists.proofs.Replies.{done-answer}
+use Rattle.pipeline.proofs.Tests.{at_first, at_later, done-at, renumbered}
 use Rattle.autoscale.proofs.Painted.{NoWindow}
 
 -- ---- a window that painting starts from
 
 -- at U16: no number refuses it
-pub opens_straight : (w : WindowAnswer) → ((k : ℕ) → w ≡ Refused k → ⊥) → gamma_refused w ≡ false → opens U16 w ≡ true
+pub opens_straight : (w : Option WindowFloats) → gamma_refused w ≡ false → opens U16 w ≡ true
 unfolding opens gamma_refused ne
-opens_straight (Window low high range gamma) n e = not-false _ e
-opens_straight Blank n e = refl
-opens_straight (Refused k) n e = absurd (n k refl)
+opens_straight (Some w) e = not-false _ e
+opens_straight None e = refl
 
 -- at U8: its gamma is one of four
-pub opens-usual : (w : WindowAnswer) → usual w ≡ true → opens U8 w ≡ true
+pub opens-usual : (w : Option WindowFloats) → usual w ≡ true → opens U8 w ≡ true
 unfolding opens usual
-opens-usual (Window low high range gamma) e = e
-opens-usual Blank e = refl
-opens-usual (Refused k) e = e
+opens-usual (Some w) e = e
+opens-usual None e = refl
 
--- the last of six tests does not hold where none does
-pub last_clear : (a b c d e f : Bool) → first_of 1 (a ∷ b ∷ c ∷ d ∷ e ∷ f ∷ []) ≡ 0 → f ≡ false
-last_clear a b c d e f q =
-    let q2 = (none_applies 0 a (b ∷ c ∷ d ∷ e ∷ f ∷ []) q).1 in
-    let q3 = (none_applies 1 b (c ∷ d ∷ e ∷ f ∷ []) q2).1 in
-    let q4 = (none_applies 2 c (d ∷ e ∷ f ∷ []) q3).1 in
-    let q5 = (none_applies 3 d (e ∷ f ∷ []) q4).1 in
+-- the last of three tests does not hold where none does
+last_clear : (d e f : Bool) → first_of 4 (d ∷ e ∷ f ∷ []) ≡ 0 → f ≡ false
+last_clear d e f q =
+    let q5 = (none_applies 3 d (e ∷ f ∷ []) q).1 in
     let q6 = (none_applies 4 e (f ∷ []) q5).1 in
     (none_applies 5 f [] q6).0
 
--- ---- the number n, or the window w0
-unless-number : (n : ℕ) (w0 : WindowAnswer) (k : ℕ) → ((j : ℕ) → w0 ≡ Refused j → ⊥) → unless Refused n w0 ≡ Refused k → {A : Type 0} (a : A) → answer n a ≡ refused k
-unfolding unless answer or_refused
-unless-number zero w0 k o e a = absurd (o k e)
-unless-number (suc j) w0 k o e a = ap refused (let z : suc j ≡ k = cc in z)
+-- ---- a reply that reads as an answer
+pub read_refused : {A : Type 0} (r : Result A Refusal) (a : Answer A) (k : Refusal) → read r ≡ a → r ≡ Err k → a ≡ refused (refusal_number k)
+unfolding read
+read_refused r a k q e = sym q ∙ ap read e
 
-unless-window : (n : ℕ) (w0 w : WindowAnswer) → w ≡ unless Refused n w0 → NotRefused w → (n ≡ 0) × (w ≡ w0)
-unfolding unless
-unless-window zero w0 w e h = (refl, e)
-unless-window (suc k) w0 w e h = absurd (h (suc k) e)
+pub read_done : {A : Type 0} (r : Result A Refusal) (a : Answer A) (x : A) → read r ≡ a → r ≡ Ok x → a ≡ done x
+unfolding read
+read_done r a x q e = sym q ∙ ap read e
 
 -- what a call owes, once its answer is known
 module _ (strategy : AutoscaleStrategy) (a : Answer (List ℕ)) (old : List ℕ) (work : List Float) where
@@ -80,93 +78,112 @@ module _ (strategy : AutoscaleStrategy) (a : Answer (List ℕ)) (old : List ℕ)
   unfolding number after uses
   owed_done greys new last e f k = (sym (ap number e), (f ∙ sym (ap (λ (q : Answer (List ℕ)). after (λ l. l) q old) e), rw e k))
 
--- ---- a grey call with these tests, whose values g a window decides
-module _ (strategy : AutoscaleStrategy) (rows cols : ℕ) (m : List ℕ) (d : List Float) (out : List ℕ) (work : List Float) (g : WindowAnswer → List ℕ) (w : WindowAnswer) (ts : List Bool) where
-  abbrev w0 : WindowAnswer
-  w0 = window_of strategy (statistics_of (pixels m d))
+-- ---- a grey call: its values by a window, in sides and pixels
 
-  abbrev n : ℕ
-  n = first_of 1 (sides_refused rows cols ∷ (lengths_refused rows cols m d || unlike (length out) (rows * cols) || work_refused strategy (length work)) ∷ ts)
+abbrev pub greys_by : AutoscaleStrategy → Option WindowFloats → Sides → List Pixel → List ℕ
+greys_by strategy w s px = stretch (values U8 strategy s.rows s.cols px w)
 
-  module _ (is : w ≡ unless Refused n w0) where
-    -- refused: nothing is written
-    pub tests_refused : (k : ℕ) → w ≡ Refused k → Owed strategy (answer n (g w0)) out work k out work
-    tests_refused k e = owed_refused strategy (answer n (g w0)) out work k (unless-number n w0 k (window_open strategy (statistics_of (pixels m d))) (sym is ∙ e) (g w0))
+abbrev pub values_by : AutoscaleStrategy → Option WindowFloats → Sides → List Pixel → List ℕ
+values_by strategy w s px = values U16 strategy s.rows s.cols px w
 
-    module _ (unrefused : NotRefused w) where
-      pub tests_known : (n ≡ 0) × (w ≡ w0)
-      tests_known = unless-window n w0 w is unrefused
+module _ (strategy : AutoscaleStrategy) (sides : Sides) (m : List ℕ) (d : List Float) (out : List ℕ) (work : List Float)
+    (of : Option WindowFloats → Sides → List Pixel → List ℕ) (rest : List Bool) where
+  abbrev first-window : Option WindowFloats
+  first-window = window_of strategy (statistics_of (pixels m d))
 
-      pub tests_ask : Ready strategy (record { rows = rows; cols = cols }) m d (length out) (length work)
-      tests_ask = grey_ready strategy rows cols m d (length out) (length work) ts tests_known.0
+  abbrev greys-of : Option WindowFloats → List ℕ
+  greys-of w = of w sides (pixels m d)
 
-      -- done: the values are written, and Clahe may have written to the work list
-      pub tests_done : (new : List ℕ) (last : List Float) → new ≡ g w → Kept (is_clahe strategy) work last → Owed strategy (answer n (g w0)) out work 0 new last
-      unfolding answer or_refused
-      tests_done new last e k = owed_done strategy (answer n (g w0)) out work (g w0) new last (rw tests_known.0) (e ∙ ap g tests_known.1) k
+  abbrev shape : List Bool
+  shape =
+      sides_refused sides.rows sides.cols
+      ∷ (lengths_refused sides.rows sides.cols m d || unlike (length out) (sides.rows * sides.cols) || work_refused strategy (length work)) ∷ marks_refused m ∷ []
 
--- ---- at U8
-module _ (strategy : AutoscaleStrategy) (rows cols : ℕ) (m : List ℕ) (d : List Float) (out : List ℕ) (work : List Float) (g : WindowAnswer → List ℕ) (w : WindowAnswer)
-    (is : w ≡ grey_window strategy rows cols m d (length out) (length work)) where
-  abbrev owed8 : Answer (List ℕ)
-  owed8 = answer (first_of 1 (grey_tests strategy rows cols m d (length out) (length work) (pixels m d))) (g (window_of strategy (statistics_of (pixels m d))))
+  abbrev called : Answer (List ℕ)
+  called = answer (first_of 1 (shape ++ rest)) (greys-of first-window)
 
-  pub grey-refused : (k : ℕ) → w ≡ Refused k → Owed strategy owed8 out work k out work
-  unfolding grey_window grey_tests
-  grey-refused k e = tests_refused strategy rows cols m d out work g w _ is k e
+  -- refused by the first tests: nothing is written
+  pub first_refused : (k : ℕ) → k ≡ first_of 1 shape → (k ≡ 0 → ⊥) → Owed strategy called out work k out work
+  first_refused k q n = owed_refused strategy called out work k (at_first (greys-of first-window) shape rest k q n)
 
-  module _ (unrefused : NotRefused w) where
-    pub grey_asks : Ready strategy (record { rows = rows; cols = cols }) m d (length out) (length work)
-    unfolding grey_window grey_tests
-    grey_asks = tests_ask strategy rows cols m d out work g w _ is unrefused
+  module _ (good : 0 ≡ first_of 1 shape) where
+    abbrev later : Answer (Option WindowFloats)
+    later = answer (first_of 4 rest) first-window
 
-    pub grey-opens : opens U8 w ≡ true
-    unfolding grey_window grey_tests
-    grey-opens = rw (tests_known strategy rows cols m d out work g w _ is unrefused).1 (opens-usual _ (gammas.grey strategy (statistics_of (pixels m d))))
+    -- by the others
+    pub later_refused : (k : ℕ) → later ≡ refused k → Owed strategy called out work k out work
+    later_refused k e =
+        owed_refused strategy called out work k
+        (at_later (greys-of first-window) shape rest (sym good) ∙ renumbered _ k first-window (greys-of first-window) e)
 
-    pub grey-done : (new : List ℕ) (last : List Float) → new ≡ g w → Kept (is_clahe strategy) work last → Owed strategy owed8 out work 0 new last
-    unfolding grey_window grey_tests
-    grey-done new last e k = tests_done strategy rows cols m d out work g w _ is unrefused new last e k
+    -- done: the values are written, and Clahe may have written to the work list
+    pub all_done :
+        (w : Option WindowFloats) → later ≡ done w → (raster : Raster) → Holds sides m d raster → (new : List ℕ) (last : List Float)
+        → new ≡ of w raster.sides (pixels_of raster.band) → Kept (is_clahe strategy) work last → Owed strategy called out work 0 new last
+    all_done w e raster h new last q k =
+        let known = done-answer _ first-window w e in
+        owed_done strategy called out work (greys-of first-window) new last
+        (at_later (greys-of first-window) shape rest (sym good) ∙ done-at (greys-of first-window) _ known.0)
+        (q ∙ held (of w) sides m d raster h ∙ ap greys-of (sym known.1)) k
 
--- ---- at U16
-module _ (strategy : AutoscaleStrategy) (rows cols : ℕ) (m : List ℕ) (d : List Float) (out : List ℕ) (work : List Float) (g : WindowAnswer → List ℕ) (w : WindowAnswer)
-    (is : w ≡ grey_window16 strategy rows cols m d (length out) (length work)) where
-  abbrev w16 : WindowAnswer
-  w16 = window_of strategy (statistics_of (pixels m d))
+-- ---- the grey calls, of an accepted raster
+module _ (strategy : AutoscaleStrategy) (sides : Sides) (m : List ℕ) (d : List Float) (raster : Raster) (h : Holds sides m d raster) (r : Result (Option WindowFloats) Refusal) where
+  abbrev band : List Pixel
+  band = pixels m d
 
-  abbrev owed16 : Answer (List ℕ)
-  owed16 = answer (first_of 1 (grey_tests strategy rows cols m d (length out) (length work) (pixels m d) ++ (gamma_refused w16 ∷ []))) (g w16)
+  abbrev w0 : Option WindowFloats
+  w0 = window_of strategy (statistics_of band)
 
-  pub grey16_refused : (k : ℕ) → w ≡ Refused k → Owed strategy owed16 out work k out work
-  unfolding grey_window16 grey_tests
-  grey16_refused k e = tests_refused strategy rows cols m d out work g w _ is k e
+  -- at U8
+  module _ (is : read r ≡ grey_window strategy raster.sides (pixels_of raster.band)) where
+    abbrev tests : List Bool
+    tests = decibels_refused band ∷ tiles_refused strategy sides.rows sides.cols band ∷ []
 
-  module _ (unrefused : NotRefused w) where
-    pub grey16_asks : Ready strategy (record { rows = rows; cols = cols }) m d (length out) (length work)
-    unfolding grey_window16 grey_tests
-    grey16_asks = tests_ask strategy rows cols m d out work g w _ is unrefused
+    read8 : read r ≡ answer (first_of 4 tests) w0
+    unfolding grey_window
+    read8 = is ∙ held (grey_window strategy) sides m d raster h
 
-    pub grey16_opens : opens U16 w ≡ true
-    unfolding grey_window16 grey_tests
-    grey16_opens =
-        let known = tests_known strategy rows cols m d out work g w _ is unrefused in
-        rw known.1 (opens_straight w16 (window_open strategy (statistics_of (pixels m d))) (last_clear _ _ _ _ _ (gamma_refused w16) known.0))
+    pub grey_err : (k : Refusal) → r ≡ Err k → answer (first_of 4 tests) w0 ≡ refused (refusal_number k)
+    grey_err k e = read_refused r _ k read8 e
 
-    pub grey16_done : (new : List ℕ) (last : List Float) → new ≡ g w → Kept (is_clahe strategy) work last → Owed strategy owed16 out work 0 new last
-    unfolding grey_window16 grey_tests
-    grey16_done new last e k = tests_done strategy rows cols m d out work g w _ is unrefused new last e k
+    module _ (w : Option WindowFloats) (e : r ≡ Ok w) where
+      pub grey_ok : answer (first_of 4 tests) w0 ≡ done w
+      grey_ok = read_done r _ w read8 e
+
+      pub grey-opens : opens U8 w ≡ true
+      grey-opens = rw (← (done-answer _ w0 w grey_ok).1) (opens-usual _ (gammas.grey strategy (statistics_of band)))
+
+  -- at U16
+  module _ (is : read r ≡ grey_window16 strategy raster.sides (pixels_of raster.band)) where
+    abbrev tests16 : List Bool
+    tests16 = decibels_refused band ∷ tiles_refused strategy sides.rows sides.cols band ∷ gamma_refused w0 ∷ []
+
+    read16 : read r ≡ answer (first_of 4 tests16) w0
+    unfolding grey_window16
+    read16 = is ∙ held (grey_window16 strategy) sides m d raster h
+
+    pub grey16_err : (k : Refusal) → r ≡ Err k → answer (first_of 4 tests16) w0 ≡ refused (refusal_number k)
+    grey16_err k e = read_refused r _ k read16 e
+
+    module _ (w : Option WindowFloats) (e : r ≡ Ok w) where
+      pub grey16_ok : answer (first_of 4 tests16) w0 ≡ done w
+      grey16_ok = read_done r _ w read16 e
+
+      pub grey16_opens : opens U16 w ≡ true
+      grey16_opens =
+          let known = done-answer _ w0 w grey16_ok in
+          rw (← known.1) (opens_straight w0 (last_clear _ _ (gamma_refused w0) known.0))
 
 -- ---- by Clahe
 
 -- without a window the values are those outside Clahe
-pub values-none : (depth : BitDepth) (strategy : AutoscaleStrategy) (rows cols : ℕ) (px : List Pixel) (w : WindowAnswer) → NoWindow w →
+pub values-none : (depth : BitDepth) (strategy : AutoscaleStrategy) (rows cols : ℕ) (px : List Pixel) (w : Option WindowFloats) → NoWindow w →
     plain_values depth px w ≡ values depth strategy rows cols px w
 unfolding values
-values-none depth strategy rows cols px (Window low high range gamma) h = absurd (h low high range gamma refl)
-values-none depth strategy rows cols px Blank h = refl
-values-none depth strategy rows cols px (Refused k) h = refl
+values-none depth strategy rows cols px (Some window) h = absurd (h window refl)
+values-none depth strategy rows cols px None h = refl
 
-pub values_tiles : (depth : BitDepth) (rows cols : ℕ) (px : List Pixel) (w : WindowAnswer) (low high range gamma : Float) → w ≡ Window low high range gamma →
-    clahe_values (full_of depth) rows cols (map (normal_pixel low high range) px) ≡ values depth Clahe rows cols px w
-unfolding values is_clahe
-values_tiles depth rows cols px w low high range gamma e = ap (values depth Clahe rows cols px) (sym e)
+pub values_tiles : (depth : BitDepth) (strategy : AutoscaleStrategy) (rows cols : ℕ) (px : List Pixel) (w : Option WindowFloats) (window : WindowFloats) → w ≡ Some window → is_clahe strategy ≡ true →
+    clahe_values (full_of depth) rows cols (map (normal_pixel window.low window.high window.range) px) ≡ values depth strategy rows cols px w
+unfolding values
+values_tiles depth strategy rows cols px w window e c = rw (e, c)

@@ -1,53 +1,58 @@
--- Five tests in the table's order, of which the first three are decided at once. Assumes nothing.
+-- Tests in the table's order: those of the rasters, and then those of the windows. Assumes nothing.
 use mathlib.Core.Path.{◌≡◌, refl, sym, ap, ◌∙◌}
-use mathlib.Core.Bool.{Bool, true, false}
-use mathlib.Core.List.{List, [], ◌∷◌}
-use Prim.Native.Nat.{ℕ, zero, suc}
+use mathlib.Core.Bool.{Bool, true, false, true≢false}
+use mathlib.Core.List.{List, [], ◌∷◌, ◌++◌}
+use Prim.Native.Nat.{ℕ, zero, suc, ◌+◌}
 use native.Mathlib.Omega.{arith}
-use Rattle.spec.specs.Answer.{first_of}
-use Rattle.raster.proofs.Bands.{first_stays, first_later, first-here, first_not_here, first-none}
-use Rattle.pipeline.specs.Windows.{unless}
+use lib.ListN.{length}
+use Rattle.spec.specs.Answer.{Answer, refused, done, first_of, or_refused, answer, number}
+use Rattle.raster.proofs.Bands.{first_stays, first_later}
 
-module _ {A : Type 0} (refuse : ℕ → A) (v : A) where
-  unless-refused : (k : ℕ) → (k ≡ 0 → ⊥) → refuse k ≡ unless refuse k v
-  unfolding unless
-  unless-refused zero n = absurd (n refl)
-  unless-refused (suc k) n = refl
+-- an answer that refuses has a number
+unfoldable pub is_refused : {A : Type 0} → Answer A → Bool
+is_refused (refused k) = true
+is_refused (done a) = false
 
-  unless_not : (k : ℕ) → k ≡ 0 → v ≡ unless refuse k v
-  unfolding unless
-  unless_not k e = rw e
+refused_not_zero : {A : Type 0} (n k : ℕ) (a : A) → answer n a ≡ refused k → n ≡ 0 → ⊥
+unfolding answer or_refused is_refused
+refused_not_zero zero k a e z = true≢false (sym (ap is_refused e))
+refused_not_zero (suc n) k a e z = absurd (omega (arith, z))
 
-  module _ (a b c d e : Bool) where
-    abbrev shape : List Bool
-    shape = a ∷ b ∷ c ∷ []
+-- the same number for another value
+pub renumbered : {A B : Type 0} (n k : ℕ) (a : A) (b : B) → answer n a ≡ refused k → answer n b ≡ refused k
+unfolding answer or_refused number
+renumbered zero k a b e = absurd (refused_not_zero zero k a e refl)
+renumbered (suc j) k a b e = ap refused (ap number e)
 
-    abbrev all : List Bool
-    all = a ∷ b ∷ c ∷ d ∷ e ∷ []
+module _ {A : Type 0} (v : A) where
+  refused-at : (k : ℕ) → (k ≡ 0 → ⊥) → answer k v ≡ refused k
+  unfolding answer or_refused
+  refused-at zero n = absurd (n refl)
+  refused-at (suc k) n = refl
 
-    abbrev answered : A
-    answered = unless refuse (first_of 1 all) v
+  pub done-at : (k : ℕ) → k ≡ 0 → answer k v ≡ done v
+  unfolding answer or_refused
+  done-at k e = rw e
 
-    refused_by : (k : ℕ) → (k ≡ 0 → ⊥) → first_of 1 all ≡ k → refuse k ≡ answered
-    refused_by k n q = unless-refused k n ∙ ap (λ (j : ℕ). unless refuse j v) (sym q)
+  module _ (ts us : List Bool) where
+    -- what refuses among the first tests refuses the call
+    pub at_first : (k : ℕ) → k ≡ first_of 1 ts → (k ≡ 0 → ⊥) → answer (first_of 1 (ts ++ us)) v ≡ refused k
+    at_first k q n = ap (λ (j : ℕ). answer j v) (sym (first_stays 1 ts us (λ z. n (q ∙ z))) ∙ sym q) ∙ refused-at k n
 
-    -- 1 to 3
-    pub at_shape : (k : ℕ) → k ≡ first_of 1 shape → (k ≡ 0 → ⊥) → refuse k ≡ answered
-    at_shape k q n = refused_by k n (sym (first_stays 1 shape (d ∷ e ∷ []) (λ z. n (q ∙ z))) ∙ sym q)
+    -- and where none of them does, the others decide
+    pub at_later : first_of 1 ts ≡ 0 → answer (first_of 1 (ts ++ us)) v ≡ answer (first_of (1 + length ts) us) v
+    at_later e = ap (λ (j : ℕ). answer j v) (first_later 0 ts us e)
 
-    module _ (good : first_of 1 shape ≡ 0) where
-      later : first_of 1 all ≡ first_of 4 (d ∷ e ∷ [])
-      later = first_later 0 shape (d ∷ e ∷ []) good
+  -- 4 and 5 of what is known of them
+  module _ (d t : Bool) where
+    pub at_four : d ≡ true → refused 4 ≡ answer (first_of 4 (d ∷ t ∷ [])) v
+    unfolding answer or_refused first_of
+    at_four e = rw e refl
 
-      pub at-four : d ≡ true → refuse 4 ≡ answered
-      at-four q = refused_by 4 (λ z. omega (arith, z)) (later ∙ first-here 4 d (e ∷ []) q)
+    pub at_five : d ≡ false → t ≡ true → refused 5 ≡ answer (first_of 4 (d ∷ t ∷ [])) v
+    unfolding answer or_refused first_of
+    at_five e f = rw (e, f) refl
 
-      module _ (no-four : d ≡ false) where
-        from-five : first_of 1 all ≡ first_of 5 (e ∷ [])
-        from-five = later ∙ first_not_here 4 d (e ∷ []) no-four
-
-        pub at_five : e ≡ true → refuse 5 ≡ answered
-        at_five q = refused_by 5 (λ z. omega (arith, z)) (from-five ∙ first-here 5 e [] q)
-
-        pub at_none : e ≡ false → v ≡ answered
-        at_none q = unless_not (first_of 1 all) (from-five ∙ first_not_here 5 e [] q ∙ first-none 6)
+    pub at_none : d ≡ false → t ≡ false → done v ≡ answer (first_of 4 (d ∷ t ∷ [])) v
+    unfolding answer or_refused first_of
+    at_none e f = rw (e, f) refl

@@ -1,6 +1,6 @@
--- The window of a band: never a refusal by itself, present exactly with a valid pixel, and refused with 4 by a bad dB. Assumes nothing.
+-- The window of a band: present exactly with a valid pixel. Assumes nothing.
 use mathlib.Core.Path.{◌≡◌, refl, sym, ap, ◌∙◌}
-use mathlib.Core.Bool.{Bool, true, false, not, cond, ◌&&◌, ◌||◌}
+use mathlib.Core.Bool.{Bool, true, false, true≢false, not, cond, ◌&&◌, ◌||◌}
 use mathlib.Core.List.{List, [], ◌∷◌}
 use Prim.Native.Nat.{ℕ, suc}
 use native.Mathlib.Omega.{arith}
@@ -9,9 +9,9 @@ use lib.Dec.{eqb}
 use lib.ListN.{length}
 use Rattle.types.specs.declared.AutoscaleStrategy.{AutoscaleStrategy}
 use Rattle.types.specs.declared.Clip.{Clip}
-use Rattle.types.specs.declared.HistogramStats.{HistogramStats}
-use Rattle.types.specs.declared.WindowAnswer.{WindowAnswer}
-use Rattle.types.specs.declared.WindowAnswer.TheVariants.{Window, Blank, Refused}
+use Rattle.types.specs.declared.WindowFloats.{WindowFloats}
+use Rattle.std.specs.Prelude.{Option, Some, None}
+use Rattle.std.specs.Option.{is_some}
 use Rattle.spec.specs.Lists.{any}
 use Rattle.spec.specs.Pixels.{Pixel, off, on, valid_of, is_on}
 use Rattle.spec.specs.Refusals.{side_refused, tiles_refused}
@@ -19,31 +19,11 @@ use Rattle.spec.specs.Statistics.{statistics_of}
 use Rattle.spec.specs.Strategies.{is_clahe, is_tamed}
 use Rattle.spec.specs.Window.{opened, choose_clip, tamed_clip, window_of, picture_window}
 use Rattle.histogram.proofs.Counting.{count-valid}
-use Rattle.autoscale.proofs.Painted.{NoWindow}
 use Rattle.pipeline.specs.Windows.{has_window, window_tiles_refused}
-
--- a window, or blank
-abbrev pub NotRefused : WindowAnswer → Type 0
-NotRefused w = (k : ℕ) → w ≡ Refused k → ⊥
-
--- ---- no refusal by itself
-
-never : (t : Bool) (c : Clip) (k : ℕ) → cond t Blank (opened c) ≡ Refused k → ⊥
-unfolding opened
-never true c k e = let z : ◌≡◌ {A = ℕ} 0 1 = cc in omega arith
-never false c k e = let z : ◌≡◌ {A = ℕ} 0 1 = cc in omega arith
-
-pub window_open : (strategy : AutoscaleStrategy) (s : HistogramStats) (k : ℕ) → window_of strategy s ≡ Refused k → ⊥
-unfolding window_of
-window_open strategy s k e = never (eqb s.valid_count 0) (choose_clip strategy s) k e
-
-pub picture_open : (strategy : AutoscaleStrategy) (copol : Bool) (s : HistogramStats) (k : ℕ) → picture_window strategy copol s ≡ Refused k → ⊥
-unfolding picture_window
-picture_open strategy copol s k e = never (eqb s.valid_count 0) (cond (is_tamed strategy) (tamed_clip copol s) (choose_clip strategy s)) k e
 
 -- ---- a window exactly with a valid pixel
 
-has_opened : (t : Bool) (c : Clip) → has_window (cond t Blank (opened c)) ≡ not t
+has_opened : (t : Bool) (c : Clip) → has_window (cond t None (Some (opened c))) ≡ not t
 unfolding has_window opened
 has_opened true c = refl
 has_opened false c = refl
@@ -67,38 +47,28 @@ has_picture strategy copol px =
     has_opened (eqb (statistics_of px).valid_count 0) (cond (is_tamed strategy) (tamed_clip copol (statistics_of px)) (choose_clip strategy (statistics_of px))) ∙ valid-count px
 
 module _ (strategy : AutoscaleStrategy) (rows cols : ℕ) (px : List Pixel) where
-  tiles_by : (w : WindowAnswer) → has_window w ≡ any is_on px → window_tiles_refused strategy rows cols w ≡ tiles_refused strategy rows cols px
+  tiles_by : (w : Option WindowFloats) → has_window w ≡ any is_on px → window_tiles_refused strategy rows cols w ≡ tiles_refused strategy rows cols px
   unfolding window_tiles_refused tiles_refused
   tiles_by w e = ap (λ (b : Bool). is_clahe strategy && b && (side_refused rows || side_refused cols)) e
 
   -- 5 by the window
-  pub tiles_window : (w : WindowAnswer) → w ≡ window_of strategy (statistics_of px) → window_tiles_refused strategy rows cols w ≡ tiles_refused strategy rows cols px
+  pub tiles_window : (w : Option WindowFloats) → w ≡ window_of strategy (statistics_of px) → window_tiles_refused strategy rows cols w ≡ tiles_refused strategy rows cols px
   tiles_window w e = tiles_by w (ap has_window e ∙ has_window_lem strategy px)
 
-  pub tiles_picture : (copol : Bool) (w : WindowAnswer) → w ≡ picture_window strategy copol (statistics_of px) → window_tiles_refused strategy rows cols w ≡ tiles_refused strategy rows cols px
+  pub tiles_picture : (copol : Bool) (w : Option WindowFloats) → w ≡ picture_window strategy copol (statistics_of px) → window_tiles_refused strategy rows cols w ≡ tiles_refused strategy rows cols px
   tiles_picture copol w e = tiles_by w (ap has_window e ∙ has_picture strategy copol px)
 
-pub tiles_none : (strategy : AutoscaleStrategy) (rows cols : ℕ) (w : WindowAnswer) → NoWindow w → false ≡ window_tiles_refused strategy rows cols w
+pub tiles_blank : (strategy : AutoscaleStrategy) (rows cols : ℕ) (w : Option WindowFloats) → is_some w ≡ false → false ≡ window_tiles_refused strategy rows cols w
 unfolding window_tiles_refused has_window
-tiles_none strategy rows cols (Window low high range gamma) h = absurd (h low high range gamma refl)
-tiles_none strategy rows cols Blank h = none (is_clahe strategy)
-  where
-    none : (b : Bool) → false ≡ (b && false && (side_refused rows || side_refused cols))
-    none true = refl
-    none false = refl
-tiles_none strategy rows cols (Refused k) h = none (is_clahe strategy)
+tiles_blank strategy rows cols (Some window) e = absurd (true≢false e)
+tiles_blank strategy rows cols None e = none (is_clahe strategy)
   where
     none : (b : Bool) → false ≡ (b && false && (side_refused rows || side_refused cols))
     none true = refl
     none false = refl
 
--- ---- refused with 4 by a bad dB
-
-module _ (w0 w : WindowAnswer) where
-  pub banded_bad : (b : Bool) (k : ℕ) → ((j : ℕ) → w0 ≡ Refused j → ⊥) → w ≡ cond b (Refused 4) w0 → w ≡ Refused k → (b ≡ true) × (4 ≡ k)
-  banded_bad true k n e f = (refl, cc)
-  banded_bad false k n e f = absurd (n k (sym e ∙ f))
-
-  pub banded_good : (b : Bool) → w ≡ cond b (Refused 4) w0 → NotRefused w → (b ≡ false) × (w ≡ w0)
-  banded_good true e h = absurd (h 4 e)
-  banded_good false e h = (refl, e)
+pub tiles_open : (strategy : AutoscaleStrategy) (rows cols : ℕ) (w : Option WindowFloats) → is_some w ≡ true → is_clahe strategy ≡ true →
+    (side_refused rows || side_refused cols) ≡ window_tiles_refused strategy rows cols w
+unfolding window_tiles_refused has_window
+tiles_open strategy rows cols (Some window) e c = rw c
+tiles_open strategy rows cols None e c = absurd (true≢false (sym e))

@@ -1,4 +1,5 @@
 pub mod Windows
 pub mod Ready
+pub mod Scenes
 pub mod Work
 pub mod Answers

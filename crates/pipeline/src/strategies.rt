@@ -9,38 +9,26 @@ use types::{AutoscaleStrategy, CoPol};
 pub(crate) fn is_clahe(strategy: AutoscaleStrategy) -> bool
     ensures { result ≡ is_clahe strategy }
 {
-    match strategy {
-        AutoscaleStrategy::Clahe => true,
-        _ => false,
-    }
+    matches!(strategy, AutoscaleStrategy::Clahe)
 }
 
 // Whether a picture has windows of its own and no stretch.
 pub(crate) fn is_tamed(strategy: AutoscaleStrategy) -> bool
     ensures { result ≡ is_tamed strategy }
 {
-    match strategy {
-        AutoscaleStrategy::Tamed => true,
-        _ => false,
-    }
+    matches!(strategy, AutoscaleStrategy::Tamed)
 }
 
 // Whether band 1 is co-pol.
 pub(crate) fn first_is_copol(copol: CoPol) -> bool
     ensures { result ≡ first_is_copol copol }
 {
-    match copol {
-        CoPol::Band1 => true,
-        CoPol::Band2 => false,
-    }
+    matches!(copol, CoPol::Band1)
 }
 
 // Whether band 2 is co-pol.
 pub(crate) fn second_is_copol(copol: CoPol) -> bool
     ensures { result ≡ second_is_copol copol }
 {
-    match copol {
-        CoPol::Band1 => false,
-        CoPol::Band2 => true,
-    }
+    matches!(copol, CoPol::Band2)
 }

@@ -1,23 +1,17 @@
 -- What is left of a window by its case. Assumes nothing.
 use mathlib.Core.Path.{◌≡◌, refl}
-use Rattle.types.specs.declared.WindowAnswer.{WindowAnswer}
-use Rattle.types.specs.declared.WindowAnswer.TheVariants.{Window, Blank, Refused}
+use mathlib.Core.List.{[], ◌∷◌}
 use Rattle.types.specs.declared.WindowFloats.{WindowFloats}
+use Rattle.std.specs.Prelude.{Option, Some, None}
 use Rattle.spec.specs.Floats.{zero64}
-use Rattle.autoscale.proofs.Painted.{NoWindow}
-use Rattle.quicklook.specs.Numbers.{blank_mark, floats_or_zeros}
+use Rattle.spec.specs.Window.{window_floats}
+use Rattle.quicklook.specs.Numbers.{blank_of, floats_of_window}
 
-pub not_blank : (w : WindowAnswer) → (w ≡ Blank → ⊥) → 0 ≡ blank_mark w
-unfolding blank_mark
-not_blank (Window low high range gamma) h = refl
-not_blank Blank h = absurd (h refl)
-not_blank (Refused k) h = refl
+module _ (window : Option WindowFloats) where
+  pub floats_left : (w : WindowFloats) → window ≡ Some w → (0 ≡ blank_of (window_floats window)) × ((w.low ∷ w.high ∷ w.range ∷ w.gamma ∷ []) ≡ floats_of_window (window_floats window))
+  unfolding window_floats blank_of floats_of_window
+  floats_left w e = rw e (refl, refl)
 
-abbrev zeros : WindowFloats
-zeros = record { low = zero64; high = zero64; range = zero64; gamma = zero64 }
-
-pub no_floats : (w : WindowAnswer) → NoWindow w → zeros ≡ floats_or_zeros w
-unfolding floats_or_zeros
-no_floats (Window low high range gamma) h = absurd (h low high range gamma refl)
-no_floats Blank h = refl
-no_floats (Refused k) h = refl
+  pub blank_left : window ≡ None → (1 ≡ blank_of (window_floats window)) × ((zero64 ∷ zero64 ∷ zero64 ∷ zero64 ∷ []) ≡ floats_of_window (window_floats window))
+  unfolding window_floats blank_of floats_of_window
+  blank_left e = rw e (refl, refl)

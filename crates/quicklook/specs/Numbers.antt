@@ -1,11 +1,11 @@
 -- What statistics and windows leave in the lent numbers. Definitions only.
 use Rattle.std.specs.Prelude.{ℕ, List, [], ◌∷◌, Float}
 use Rattle.types.specs.declared.HistogramStats.{HistogramStats}
-use Rattle.types.specs.declared.WindowAnswer.{WindowAnswer}
-use Rattle.types.specs.declared.WindowAnswer.TheVariants.{Window, Blank, Refused}
+use Rattle.types.specs.declared.WindowFloats.{WindowFloats}
+use Rattle.std.specs.Prelude.{Option, Some, None}
 use Rattle.types.specs.declared.WindowFloats.{WindowFloats}
 use Rattle.spec.specs.Answer.{Answer, refused, done}
-use Rattle.spec.specs.Copol.{TwoWindows}
+use Rattle.types.specs.declared.PictureWindows.{PictureWindows}
 use Rattle.spec.specs.Floats.{zero64}
 
 -- a lent number afterwards, as `after` has it for a list
@@ -33,20 +33,18 @@ floats_of_window [] = zero64 ∷ zero64 ∷ zero64 ∷ zero64 ∷ []
 floats_of_window (x ∷ xs) = x ∷ xs
 
 -- document 02, F-2, two windows: 1 for a blank one, else 0; four floats of each, zeros of a blank one
-unfoldable pub blank_mark : WindowAnswer → ℕ
-blank_mark (Window low high range gamma) = 0
-blank_mark Blank = 1
-blank_mark (Refused k) = 0
+unfoldable pub blank_mark : Option WindowFloats → ℕ
+blank_mark (Some w) = 0
+blank_mark None = 1
 
-unfoldable pub floats_or_zeros : WindowAnswer → WindowFloats
-floats_or_zeros (Window low high range gamma) = record { low = low; high = high; range = range; gamma = gamma }
-floats_or_zeros Blank = record { low = zero64; high = zero64; range = zero64; gamma = zero64 }
-floats_or_zeros (Refused k) = record { low = zero64; high = zero64; range = zero64; gamma = zero64 }
+unfoldable pub floats_or_zeros : Option WindowFloats → WindowFloats
+floats_or_zeros (Some w) = w
+floats_or_zeros None = record { low = zero64; high = zero64; range = zero64; gamma = zero64 }
 
-unfoldable pub blanks_of : TwoWindows → List ℕ
+unfoldable pub blanks_of : PictureWindows → List ℕ
 blanks_of w = blank_mark w.first ∷ blank_mark w.second ∷ []
 
-unfoldable pub floats_of_both : TwoWindows → List Float
+unfoldable pub floats_of_both : PictureWindows → List Float
 floats_of_both w =
     let a = floats_or_zeros w.first in
     let b = floats_or_zeros w.second in

@@ -7,8 +7,8 @@ ghost use Rattle.spec.specs.Window as Window;
 ghost use Rattle.quicklook.specs.Calls as Calls;
 ghost use Rattle.quicklook.specs.Numbers.{kept, whole_of, floats_of, blank_of, floats_of_window};
 
-use super::{codes, replies};
-use types::{AutoscaleStrategy, HistogramStats, StatisticsAnswer, WindowAnswer};
+use super::replies;
+use types::{AutoscaleStrategy, HistogramStats};
 
 // The record's whole numbers and its floats, in its order.
 fn put_statistics(stats: HistogramStats, whole: &mut [u64; 5], floats: &mut [f64; 15])
@@ -55,11 +55,11 @@ pub extern "C" fn quicklook_statistics(
     ensures floats { floats.new ≡ after floats_of (Statistics.compute_histogram_stats rows cols valid_mask.now db.now) floats.old }
 {
     match histogram::compute_histogram_stats(rows, cols, db, valid_mask) {
-        StatisticsAnswer::Statistics(stats) => {
+        Ok(stats) => {
             put_statistics(stats, whole, floats);
             0
         }
-        StatisticsAnswer::Refused(k) => k,
+        Err(refusal) => u8::from(refusal),
     }
 }
 
@@ -93,22 +93,17 @@ fn put_window(
     ensures floats { floats.new ≡ after floats_of_window (Window.autoscale_window strategy rows cols valid_mask.now db.now) floats.old }
 {
     match autoscale::autoscale_window(strategy, rows, cols, db, valid_mask) {
-        WindowAnswer::Window {
-            low,
-            high,
-            range,
-            gamma,
-        } => {
+        Ok(Some(window)) => {
             *blank = 0;
-            *floats = [low, high, range, gamma];
+            *floats = [window.low, window.high, window.range, window.gamma];
             0
         }
-        WindowAnswer::Blank => {
+        Ok(None) => {
             *blank = 1;
             *floats = [0.0, 0.0, 0.0, 0.0];
             0
         }
-        WindowAnswer::Refused(k) => k,
+        Err(refusal) => u8::from(refusal),
     }
 }
 
@@ -127,7 +122,7 @@ pub extern "C" fn quicklook_window(
     ensures blank { blank.new ≡ kept blank_of (Calls.window strategy rows cols valid_mask.now db.now) blank.old }
     ensures floats { floats.new ≡ after floats_of_window (Calls.window strategy rows cols valid_mask.now db.now) floats.old }
 {
-    let codes::StrategyCode::Names(strategy) = codes::strategy_of(strategy) else {
+    let Ok(strategy) = AutoscaleStrategy::try_from(strategy) else {
         return 255;
     };
     put_window(strategy, rows, cols, db, valid_mask, blank, floats)

@@ -3,10 +3,12 @@ ghost use Rattle.std.specs.Prelude.{◌≡◌};
 ghost use Rattle.spec.specs.Answer.{number, after};
 ghost use Rattle.spec.specs.Colour.{bytes_of};
 ghost use Rattle.pipeline.specs.Work.{Kept};
-ghost use Rattle.quicklook.specs.Codes.{strategy_of, uses_named};
+ghost use Rattle.types.specs.Codes.{strategy_of};
+ghost use Rattle.quicklook.specs.Codes.{uses_named};
 ghost use Rattle.quicklook.specs.Calls as Calls;
 
-use super::{codes, replies};
+use super::replies;
+use types::{AutoscaleStrategy, SyntheticRgbMode};
 
 // The colours of two grey bands.
 #[unsafe(no_mangle)]
@@ -20,10 +22,10 @@ pub extern "C" fn quicklook_compose(
     ensures reply { result ≡ number (Calls.compose mode strategy band1.now band2.now rgb.old) }
     ensures colours { rgb.new ≡ after (λ l. l) (Calls.compose mode strategy band1.now band2.now rgb.old) rgb.old }
 {
-    let codes::ModeCode::Names(mode) = codes::mode_of(mode) else {
+    let Ok(mode) = SyntheticRgbMode::try_from(mode) else {
         return 255;
     };
-    let codes::StrategyCode::Names(strategy) = codes::strategy_of(strategy) else {
+    let Ok(strategy) = AutoscaleStrategy::try_from(strategy) else {
         return 255;
     };
     replies::reply_number(synthetic_rgb::create_synthetic_rgb_by_mode_and_strategy(
@@ -53,10 +55,10 @@ pub extern "C" fn quicklook_picture(
     ensures colours { rgb.new ≡ after (λ p. bytes_of p.colours) (Calls.picture strategy mode rows cols valid_mask1.now db1.now valid_mask2.now db2.now grey1.old grey2.old rgb.old work.old) rgb.old }
     ensures work { Kept (uses_named (strategy_of strategy) (Calls.picture strategy mode rows cols valid_mask1.now db1.now valid_mask2.now db2.now grey1.old grey2.old rgb.old work.old)) work.old work.new }
 {
-    let codes::StrategyCode::Names(strategy) = codes::strategy_of(strategy) else {
+    let Ok(strategy) = AutoscaleStrategy::try_from(strategy) else {
         return 255;
     };
-    let codes::ModeCode::Names(mode) = codes::mode_of(mode) else {
+    let Ok(mode) = SyntheticRgbMode::try_from(mode) else {
         return 255;
     };
     replies::reply_number(pipeline::synthetic_rgb_picture(

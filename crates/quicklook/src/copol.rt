@@ -4,11 +4,12 @@ ghost use Rattle.spec.specs.Answer.{number, after};
 ghost use Rattle.spec.specs.Colour.{bytes_of};
 ghost use Rattle.pipeline.specs.Work.{Kept};
 ghost use Rattle.quicklook.specs.Calls as Calls;
-ghost use Rattle.quicklook.specs.Codes.{strategy_of, uses_named};
+ghost use Rattle.types.specs.Codes.{strategy_of};
+ghost use Rattle.quicklook.specs.Codes.{uses_named};
 ghost use Rattle.quicklook.specs.Numbers.{blank_mark, floats_or_zeros, blanks_of, floats_of_both};
 
-use super::{codes, replies};
-use types::{PictureChoices, PictureWindows, WindowAnswer, WindowFloats};
+use super::replies;
+use types::{AutoscaleStrategy, CoPol, PictureChoices, SyntheticRgbMode, WindowFloats};
 
 // The picture of two bands: two greys, then their colours. Under Tamed the chosen band counts as co-pol.
 #[unsafe(no_mangle)]
@@ -33,13 +34,13 @@ pub extern "C" fn quicklook_picture_copol(
     ensures colours { rgb.new ≡ after (λ p. bytes_of p.colours) (Calls.picture_copol strategy mode copol rows cols valid_mask1.now db1.now valid_mask2.now db2.now grey1.old grey2.old rgb.old work.old) rgb.old }
     ensures work { Kept (uses_named (strategy_of strategy) (Calls.picture_copol strategy mode copol rows cols valid_mask1.now db1.now valid_mask2.now db2.now grey1.old grey2.old rgb.old work.old)) work.old work.new }
 {
-    let codes::StrategyCode::Names(strategy) = codes::strategy_of(strategy) else {
+    let Ok(strategy) = AutoscaleStrategy::try_from(strategy) else {
         return 255;
     };
-    let codes::ModeCode::Names(mode) = codes::mode_of(mode) else {
+    let Ok(mode) = SyntheticRgbMode::try_from(mode) else {
         return 255;
     };
-    let codes::CopolCode::Names(copol) = codes::copol_of(copol) else {
+    let Ok(copol) = CoPol::try_from(copol) else {
         return 255;
     };
     let choices = PictureChoices {
@@ -63,43 +64,33 @@ pub extern "C" fn quicklook_picture_copol(
 }
 
 // 1 for a blank window, else 0.
-fn blank_mark(window: WindowAnswer) -> u8
+#[tactic(auto, unfolding(crate::specs::Numbers::blank_mark))]
+fn blank_mark(window: Option<WindowFloats>) -> u8
     ensures { result ≡ blank_mark window }
 {
-    match window {
-        WindowAnswer::Blank => 1,
-        _ => 0,
-    }
+    u8::from(window.is_none())
 }
 
 // A window's floats, zeros for a blank one.
-fn floats_or_zeros(window: WindowAnswer) -> WindowFloats
+#[tactic(auto, unfolding(crate::specs::Numbers::floats_or_zeros))]
+fn floats_or_zeros(window: Option<WindowFloats>) -> WindowFloats
     ensures { result ≡ floats_or_zeros window }
 {
-    let WindowAnswer::Window {
-        low,
-        high,
-        range,
-        gamma,
-    } = window
-    else {
-        return WindowFloats {
-            low: 0.0,
-            high: 0.0,
-            range: 0.0,
-            gamma: 0.0,
-        };
-    };
-    WindowFloats {
-        low,
-        high,
-        range,
-        gamma,
-    }
+    window.unwrap_or(WindowFloats {
+        low: 0.0,
+        high: 0.0,
+        range: 0.0,
+        gamma: 0.0,
+    })
 }
 
 // Both windows into the lent numbers.
-fn put_both(first: WindowAnswer, second: WindowAnswer, blank: &mut [u8; 2], floats: &mut [f64; 8])
+fn put_both(
+    first: Option<WindowFloats>,
+    second: Option<WindowFloats>,
+    blank: &mut [u8; 2],
+    floats: &mut [f64; 8],
+)
     ensures { (blank.new ≡ blanks_of (record { first = first; second = second })) × (floats.new ≡ floats_of_both (record { first = first; second = second })) }
 {
     let a = floats_or_zeros(first);
@@ -128,10 +119,10 @@ pub extern "C" fn quicklook_picture_windows(
     ensures blank { blank.new ≡ after blanks_of (Calls.picture_windows strategy copol rows cols valid_mask1.now db1.now valid_mask2.now db2.now) blank.old }
     ensures floats { floats.new ≡ after floats_of_both (Calls.picture_windows strategy copol rows cols valid_mask1.now db1.now valid_mask2.now db2.now) floats.old }
 {
-    let codes::StrategyCode::Names(strategy) = codes::strategy_of(strategy) else {
+    let Ok(strategy) = AutoscaleStrategy::try_from(strategy) else {
         return 255;
     };
-    let codes::CopolCode::Names(copol) = codes::copol_of(copol) else {
+    let Ok(copol) = CoPol::try_from(copol) else {
         return 255;
     };
     match pipeline::synthetic_rgb_windows(
@@ -144,10 +135,10 @@ pub extern "C" fn quicklook_picture_windows(
         db2,
         valid_mask2,
     ) {
-        PictureWindows::Windows(first, second) => {
-            put_both(first, second, blank, floats);
+        Ok(windows) => {
+            put_both(windows.first, windows.second, blank, floats);
             0
         }
-        PictureWindows::Refused(k) => k,
+        Err(refusal) => u8::from(refusal),
     }
 }

@@ -1,6 +1,5 @@
 #![tactic(auto)]
 // The calls for programs in C, as include/quicklook.h declares them. Each answers the table's number, 0 where it is done.
-mod codes; // codes.rt: the codes of strategies, modes and co-pol bands
 mod replies; // replies.rt: a call's reply as its number
 mod whole; // whole.rt: marks, stretch and arithmetic, on whole lists
 mod pads; // pads.rt: padding to a square

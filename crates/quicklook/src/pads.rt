@@ -1,4 +1,5 @@
 // Padding to a square whose side is the larger one.
+// Kept: a function for each depth, since C has no generic ones.
 ghost use Rattle.std.specs.Prelude.{◌≡◌, length};
 ghost use Rattle.spec.specs.Answer.{number, after};
 ghost use Rattle.spec.specs.Padding.{add_padding_to_square};

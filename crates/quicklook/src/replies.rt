@@ -2,14 +2,15 @@
 ghost use Rattle.std.specs.Prelude.{◌≡◌};
 ghost use Rattle.spec.specs.Answer.{reply_number};
 
-use types::Reply;
+use types::Refusal;
 
 // The number of a reply: 0 is done.
-pub(crate) fn reply_number(reply: Reply) -> u8
+// Kept: a function, since a `From` of a Result for u8 may be written in no crate but the library's.
+pub(crate) fn reply_number(reply: Result<(), Refusal>) -> u8
     ensures { result ≡ reply_number reply }
 {
     match reply {
-        Reply::Done => 0,
-        Reply::Refused(k) => k,
+        Ok(()) => 0,
+        Err(refusal) => u8::from(refusal),
     }
 }

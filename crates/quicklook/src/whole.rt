@@ -1,4 +1,5 @@
 // The calls on whole lists: marks, the stretch by itself, and arithmetic element by element.
+// Kept: a function for each operation, since C has no generic ones.
 ghost use Rattle.std.specs.Prelude.{◌≡◌, length};
 ghost use Rattle.spec.specs.Answer.{number, after};
 ghost use Rattle.spec.specs.Marks.{process_scalar_data_mask};

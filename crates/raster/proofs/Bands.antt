@@ -1,4 +1,4 @@
--- The pixels of a band, one by one; what accepted sides, lengths and marks say; and which marks make a pixel valid. Assumes nothing.
+-- The pixels of a band, one by one; what accepted lengths and marks say; and which marks make a pixel valid. Assumes nothing.
 use mathlib.Core.Path.{◌≡◌, refl, sym, ap, ◌∙◌}
 use mathlib.Core.Bool.{Bool, true, false, ◌||◌}
 use mathlib.Core.List.{List, [], ◌∷◌, ◌++◌, zip_with}
@@ -7,7 +7,6 @@ use native.Mathlib.Nat.{add-zero, suc_inj, le_of_suc-le-suc, not-suc-le-zero}
 use native.Mathlib.Numerals.{add-one}
 use native.Mathlib.Omega.{arith}
 use borrow.Author.Tests.{ltb-false}
-use lib.Dec.{ltb}
 use lib.ListN.{length, get_or, drop}
 use lib.Ieee.{Float, nan}
 use Rattle.spec.specs.Answer.{first_of}
@@ -15,7 +14,7 @@ use Rattle.spec.specs.Lists.{any, count_of}
 use Rattle.spec.specs.Pixels.{Pixel, off, on, pixel, pixels, valid_of}
 use Rattle.lists.proofs.Replies.{none_first, none_rest, or_left, or_right, not_unlike}
 use Rattle.lists.proofs.Zip.{zip_length}
-use Rattle.spec.specs.Refusals.{sides_refused, unlike, lengths_refused, marks_refused}
+use Rattle.spec.specs.Refusals.{unlike, lengths_refused, marks_refused}
 
 -- ---- one pixel
 
@@ -55,6 +54,11 @@ module _ (m : List ℕ) (d : List Float) (i : ℕ) (h : i < length m) (k : i < l
   pub next_on : (get_or m i 0 ≡ 0 → ⊥) → drop i (pixels m d) ≡ on (get_or d i nan) ∷ drop (i + 1) (pixels m d)
   next_on e = rw add-one (drop-pixels m d i h k ∙ ap (λ (p : Pixel). p ∷ drop (suc i) (pixels m d)) (pixel-on (get_or m i 0) (get_or d i nan) e))
 
+-- ---- the pixels of the same lists
+
+pub pixels_same : {m m' : List ℕ} {d d' : List Float} → d ≡ d' → m ≡ m' → pixels m d ≡ pixels m' d'
+pixels_same e f = cc
+
 -- ---- how many
 
 pub pixels-length : (m : List ℕ) (d : List Float) → length m ≡ length d → length (pixels m d) ≡ length d
@@ -75,10 +79,6 @@ valid-ones (suc (suc k) ∷ m) (v ∷ d) e b = absurd (omega (arith, ltb-false 1
 
 -- ---- what is known once a test has not refused
 
-pub sides_accepted : (rows cols : ℕ) → sides_refused rows cols ≡ false → (rows ≤ 4096) × (cols ≤ 4096)
-unfolding sides_refused
-sides_accepted rows cols e = let p = or_false (ltb 4096 rows) (ltb 4096 cols) e in (ltb-false 4096 rows p.0, ltb-false 4096 cols p.1)
-
 pub named : (n k : ℕ) → unlike n k ≡ false → n ≡ k
 named = not_unlike
 
@@ -91,22 +91,6 @@ lengths_accepted rows cols m d e =
 -- no test applies where the answer is 0
 pub none_applies : (k : ℕ) (t : Bool) (ts : List Bool) → first_of (suc k) (t ∷ ts) ≡ 0 → (t ≡ false) × (first_of (suc (suc k)) ts ≡ 0)
 none_applies k t ts e = (none_first k 0 t ts (sym e) (omega arith), sym (none_rest k 0 t ts (sym e) (omega arith)))
-
--- sides, lengths and marks that are accepted
-pub record Shaped (rows cols : ℕ) (m : List ℕ) (d : List Float) : Type 0 where
-  pub rows_most : rows ≤ 4096
-  pub cols_most : cols ≤ 4096
-  pub length_db : length d ≡ rows * cols
-  pub length-marks : length m ≡ rows * cols
-  pub marks_good : marks_refused m ≡ false
-
-pub shape_accepted : (rows cols : ℕ) (m : List ℕ) (d : List Float) → first_of 1 (sides_refused rows cols ∷ lengths_refused rows cols m d ∷ marks_refused m ∷ []) ≡ 0 → Shaped rows cols m d
-shape_accepted rows cols m d e =
-    let a = none_applies 0 (sides_refused rows cols) (lengths_refused rows cols m d ∷ marks_refused m ∷ []) e in
-    let b = none_applies 1 (lengths_refused rows cols m d) (marks_refused m ∷ []) a.1 in
-    let s = sides_accepted rows cols a.0 in
-    let n = lengths_accepted rows cols m d b.0 in
-    record { rows_most = s.0; cols_most = s.1; length_db = n.0; length-marks = n.1; marks_good = (none_applies 2 (marks_refused m) [] b.1).0 }
 
 -- a test that applies decides, and one that does not leaves it to the next
 pub first-here : (k : ℕ) (t : Bool) (ts : List Bool) → t ≡ true → first_of k (t ∷ ts) ≡ k

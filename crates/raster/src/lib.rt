@@ -1,33 +1,21 @@
 #![tactic(auto)]
-// The refusals that any band can meet, each a test of one pass, and the first three together in the order of the table of replies.
-ghost use Rattle.std.specs.Prelude.{◌≡◌, ◌∷◌, [], ◌≤◌, length};
-ghost use Rattle.spec.specs.Answer.{first_of};
+// The refusals that any band can meet, each a test of one pass, and a raster: a band that has met the first of them.
+mod accept; // accept.rt: which lists are a raster
+mod band; // band.rt: a band, and a raster
+
+ghost use Rattle.std.specs.Prelude.{◌≡◌};
 ghost use Rattle.spec.specs.Lists.{highest};
 ghost use Rattle.spec.specs.Pixels.{on};
-ghost use Rattle.spec.specs.Refusals.{sides_refused, lengths_refused, marks_refused, decibel_refused};
+ghost use Rattle.spec.specs.Refusals.{sides_refused, marks_refused, decibel_refused};
+
+pub use band::{Band, CountedBand, Raster};
 
 // 1: whether a side is above 4,096.
 #[tactic(auto, unfolding(spec::specs::Refusals::sides_refused))]
-pub fn sides_refused(rows: usize, cols: usize) -> bool
+fn sides_refused(rows: usize, cols: usize) -> bool
     ensures { result ≡ sides_refused rows cols }
 {
-    if rows > 4096 {
-        return true;
-    }
-    cols > 4096
-}
-
-// 2: whether dB or marks are not rows × cols long.
-#[tactic(auto, unfolding(spec::specs::Refusals::lengths_refused, spec::specs::Refusals::unlike))]
-pub fn lengths_refused(rows: usize, cols: usize, db: &[f64], valid_mask: &[u8]) -> bool
-    requires { (rows ≤ 4096) × (cols ≤ 4096) }
-    ensures { result ≡ lengths_refused rows cols valid_mask.now db.now }
-{
-    let n = rows * cols;
-    if db.len() != n {
-        return true;
-    }
-    valid_mask.len() != n
+    rows > 4096 || cols > 4096
 }
 
 // The greatest mark, 0 if there is none: a pass over all of them takes less time than one that may stop early.
@@ -47,32 +35,10 @@ pub fn marks_refused(valid_mask: &[u8]) -> bool
 }
 
 // Whether a dB is NaN, infinite, below -1000 or above 1000.
+// Kept: two comparisons, since the search does not prove the contract of `!(-1000.0..=1000.0).contains(&v)`.
 #[tactic(auto, unfolding(spec::specs::Refusals::decibel_refused))]
 pub fn decibel_refused(v: f64) -> bool
     ensures { result ≡ decibel_refused (on v) }
 {
-    if v >= -1000.0 {
-        if v <= 1000.0 {
-            return false;
-        }
-    }
-    true
-}
-
-// The smallest of the numbers 1 to 3 that applies to a band, 0 if none does.
-#[tactic(auto, unfolding(spec::specs::Answer::first_of), using(crate::proofs::Bands::sides_accepted))]
-pub fn shape_refusal(rows: usize, cols: usize, db: &[f64], valid_mask: &[u8]) -> u8
-    ensures { result ≡ first_of 1 (
-        sides_refused rows cols ∷ lengths_refused rows cols valid_mask.now db.now ∷ marks_refused valid_mask.now ∷ []) }
-{
-    if sides_refused(rows, cols) {
-        return 1;
-    }
-    if lengths_refused(rows, cols, db, valid_mask) {
-        return 2;
-    }
-    if marks_refused(valid_mask) {
-        return 3;
-    }
-    0
+    !(v >= -1000.0 && v <= 1000.0)
 }

@@ -1,31 +1,30 @@
 -- From what the runs of a call owe to the demand of these runs. Assumes nothing.
 use mathlib.Core.Path.{◌≡◌, refl, sym, ap, subst, ◌∙◌}
-use mathlib.Core.List.{List}
+use mathlib.Core.List.{List, [], ◌∷◌}
 use Prim.Native.Nat.{ℕ, zero, suc}
 use native.Mathlib.Omega.{arith}
-use lib.ListN.{length}
-use lib.Ieee.{Float}
+use lib.ListN.{length, get_or}
+use lib.Ieee.{Float, nan}
 use Rattle.types.specs.declared.AutoscaleStrategy.{AutoscaleStrategy}
 use Rattle.types.specs.declared.Lent.{Lent}
-use Rattle.types.specs.declared.StatisticsAnswer.{StatisticsAnswer}
-use Rattle.types.specs.declared.StatisticsAnswer.TheVariants as Stats
+use Rattle.types.specs.declared.refusal.Refusal.{Refusal}
+use Rattle.types.specs.declared.refusal.Refusal.TheVariants.{Sides, Lengths, Marks, Decibels, Tiles, Gamma}
+use Rattle.types.specs.Replies.{refusal_number}
 use Rattle.types.specs.declared.CoPol.{CoPol}
 use Rattle.types.specs.declared.PictureChoices.{PictureChoices}
-use Rattle.types.specs.declared.PictureWindows.{PictureWindows}
-use Rattle.types.specs.declared.PictureWindows.TheVariants as Both
 use Rattle.types.specs.declared.SyntheticRgbMode.{SyntheticRgbMode}
-use Rattle.types.specs.declared.WindowAnswer.{WindowAnswer}
-use Rattle.types.specs.declared.WindowAnswer.TheVariants.{Window, Blank, Refused}
+use Rattle.types.specs.declared.WindowFloats.{WindowFloats}
+use Rattle.std.specs.Prelude.{Option, Some, None, Result, Ok, Err}
 use Rattle.spec.specs.Altered.{Altered}
-use Rattle.spec.specs.Answer.{Answer, refused, done, or_refused, answer, number, after}
+use Rattle.spec.specs.Answer.{Answer, refused, done, or_refused, answer, number, after, read}
 use Rattle.spec.specs.Colour.{bytes_of}
 use Rattle.spec.specs.Grey.{autoscale_db_image_to_u8, autoscale_db_image_to_u16}
-use Rattle.spec.specs.Copol.{TwoWindows, read_windows, synthetic_rgb_picture_copol}
+use Rattle.spec.specs.Copol.{synthetic_rgb_picture_copol}
 use Rattle.spec.specs.Picture.{Picture, composed}
 use Rattle.spec.specs.Places.{moved}
-use Rattle.spec.specs.Statistics.{read_statistics}
 use Rattle.spec.specs.Curve.{compute_histogram}
-use Rattle.spec.specs.Window.{read_window}
+use Rattle.spec.specs.Window.{window_floats, read_window}
+use Rattle.lists.proofs.Replies.{done-same}
 use Rattle.demands.specs.GreyOrder.{OutsideClahe, Ranked}
 use Rattle.demands.specs.Reordering.{Reorders, AreF64, moved_triples, MovedBy, same_refusal, both_done}
 use Rattle.runs.specs.Reordered.{MovedBand}
@@ -36,35 +35,49 @@ use Rattle.demands.proofs.GreyOrder.{grey-order}
 use Rattle.demands.proofs.Moved.{order-size}
 use Rattle.demands.proofs.Reordering.{reordering}
 
--- ---- a declared answer is known by how it is read
+-- ---- a reply is known by how it is read
 
-pub read-statistics-same : (a b : StatisticsAnswer) → read_statistics a ≡ read_statistics b → a ≡ b
-unfolding read_statistics
-read-statistics-same (Stats.Statistics s) (Stats.Statistics t) e = cc
-read-statistics-same (Stats.Statistics s) (Stats.Refused k) e = cc
-read-statistics-same (Stats.Refused k) (Stats.Statistics t) e = cc
-read-statistics-same (Stats.Refused k) (Stats.Refused l) e = cc
+row : ℕ → Refusal
+row n = get_or (Sides ∷ Sides ∷ Lengths ∷ Marks ∷ Decibels ∷ Tiles ∷ Gamma ∷ []) n Sides
 
-pub read-window-same : (a b : WindowAnswer) → read_window a ≡ read_window b → a ≡ b
-unfolding read_window
-read-window-same (Window l h r g) (Window l' h' r' g') e = cc
-read-window-same (Window l h r g) Blank e = cc
-read-window-same (Window l h r g) (Refused k) e = cc
-read-window-same Blank (Window l' h' r' g') e = cc
-read-window-same Blank Blank e = cc
-read-window-same Blank (Refused k) e = cc
-read-window-same (Refused k) (Window l' h' r' g') e = cc
-read-window-same (Refused k) Blank e = cc
-read-window-same (Refused k) (Refused l) e = cc
+row-number : (refusal : Refusal) → row (refusal_number refusal) ≡ refusal
+unfolding row refusal_number
+row-number Sides = refl
+row-number Lengths = refl
+row-number Marks = refl
+row-number Decibels = refl
+row-number Tiles = refl
+row-number Gamma = refl
 
-pub read-windows-same : (a b : PictureWindows) → read_windows a ≡ read_windows b → a ≡ b
-unfolding read_windows
-read-windows-same (Both.Windows v w) (Both.Windows v' w') e =
-    let r : ◌≡◌ {A = TwoWindows} (record { first = v; second = w }) (record { first = v'; second = w' }) = cc in
-    λ i. Both.Windows (r i).first (r i).second
-read-windows-same (Both.Windows v w) (Both.Refused k) e = cc
-read-windows-same (Both.Refused k) (Both.Windows v w) e = cc
-read-windows-same (Both.Refused k) (Both.Refused l) e = cc
+refusal-same : (r s : Refusal) → refusal_number r ≡ refusal_number s → r ≡ s
+refusal-same r s e = sym (row-number r) ∙ ap row e ∙ row-number s
+
+pub read-same : {A : Type 0} (a b : Result A Refusal) → read a ≡ read b → a ≡ b
+unfolding read number
+read-same (Ok a) (Ok b) e = cc
+read-same (Ok a) (Err s) e = cc
+read-same (Err r) (Ok b) e = cc
+read-same (Err r) (Err s) e = ap Err (refusal-same r s (ap number e))
+
+-- a window by its floats
+window_by : List Float → Option WindowFloats
+window_by [] = None
+window_by (x ∷ xs) = Some (record { low = x; high = get_or xs 0 nan; range = get_or xs 1 nan; gamma = get_or xs 2 nan })
+
+by-floats : (w : Option WindowFloats) → window_by (window_floats w) ≡ w
+unfolding window_by window_floats
+by-floats (Some w) = refl
+by-floats None = refl
+
+floats-same : (v w : Option WindowFloats) → window_floats v ≡ window_floats w → v ≡ w
+floats-same v w e = sym (by-floats v) ∙ ap window_by e ∙ by-floats w
+
+pub read-window-same : (a b : Result (Option WindowFloats) Refusal) → read_window a ≡ read_window b → a ≡ b
+unfolding read_window number
+read-window-same (Ok v) (Ok w) e = ap Ok (floats-same v w (done-same _ _ e))
+read-window-same (Ok v) (Err s) e = cc
+read-window-same (Err r) (Ok w) e = cc
+read-window-same (Err r) (Err s) e = ap Err (refusal-same r s (ap number e))
 
 -- ---- two runs of the call for the bins, likewise
 

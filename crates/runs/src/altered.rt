@@ -3,31 +3,11 @@ ghost use Rattle.std.specs.Prelude.{◌≡◌};
 ghost use Rattle.spec.specs.Altered.{Altered};
 ghost use Rattle.spec.specs.Answer.{reply_number};
 
-use crate::Replies;
+use crate::TwoRuns;
 use types::{
-    AutoscaleStrategy, CoPol, PictureChoices, PictureWindows, Sides, StatisticsAnswer, WindowAnswer,
+    AutoscaleStrategy, CoPol, HistogramStats, PictureChoices, PictureWindows, Refusal, Sides,
+    WindowFloats,
 };
-
-// What two runs of the statistics call answer.
-#[derive(Clone, Copy)]
-struct StatisticsAnswers {
-    first: StatisticsAnswer,
-    second: StatisticsAnswer,
-}
-
-// What two runs of the window call answer.
-#[derive(Clone, Copy)]
-struct WindowAnswers {
-    first: WindowAnswer,
-    second: WindowAnswer,
-}
-
-// What two runs of the call for a picture's windows answer.
-#[derive(Clone, Copy)]
-struct PictureWindowsAnswers {
-    first: PictureWindows,
-    second: PictureWindows,
-}
 
 // The statistics call: the same refusal or the same record.
 fn altered_statistics(
@@ -35,12 +15,12 @@ fn altered_statistics(
     db: &[f64],
     db_altered: &[f64],
     valid_mask: &[u8],
-) -> StatisticsAnswers
+) -> TwoRuns<Result<HistogramStats, Refusal>>
     ensures statistics { Altered valid_mask.now db.now db_altered.now → result.first ≡ result.second }
 {
     let first = histogram::compute_histogram_stats(sides.rows, sides.cols, db, valid_mask);
     let second = histogram::compute_histogram_stats(sides.rows, sides.cols, db_altered, valid_mask);
-    StatisticsAnswers { first, second }
+    TwoRuns { first, second }
 }
 
 // The call for the bins: from equal lists the same reply and the same list.
@@ -51,14 +31,13 @@ fn altered_histogram(
     valid_mask: &[u8],
     hist: &mut [u32],
     hist_altered: &mut [u32],
-) -> Replies
+) -> TwoRuns<Result<(), Refusal>>
     ensures counts { Altered valid_mask.now db.now db_altered.now → hist.old ≡ hist_altered.old → (reply_number result.first ≡ reply_number result.second) × (hist.new ≡ hist_altered.new) }
 {
-    let rows = sides.rows;
-    let cols = sides.cols;
+    let Sides { rows, cols } = sides;
     let first = histogram::compute_histogram(rows, cols, db, valid_mask, hist);
     let second = histogram::compute_histogram(rows, cols, db_altered, valid_mask, hist_altered);
-    Replies { first, second }
+    TwoRuns { first, second }
 }
 
 // The window call: the same refusal, blank, or the same floats.
@@ -68,14 +47,14 @@ fn altered_window(
     db: &[f64],
     db_altered: &[f64],
     valid_mask: &[u8],
-) -> WindowAnswers
+) -> TwoRuns<Result<Option<WindowFloats>, Refusal>>
     ensures window { Altered valid_mask.now db.now db_altered.now → result.first ≡ result.second }
 {
     let first = autoscale::autoscale_window(strategy, sides.rows, sides.cols, db, valid_mask);
     let second = autoscale::autoscale_window(
         strategy, sides.rows, sides.cols, db_altered, valid_mask,
     );
-    WindowAnswers { first, second }
+    TwoRuns { first, second }
 }
 
 // The grey call at 8 bits: from equal lists the same reply and the same list.
@@ -88,11 +67,10 @@ fn altered_grey_u8(
     out: &mut [u8],
     out_altered: &mut [u8],
     work: &mut [f64],
-) -> Replies
+) -> TwoRuns<Result<(), Refusal>>
     ensures greys_u8 { Altered valid_mask.now db.now db_altered.now → out.old ≡ out_altered.old → (reply_number result.first ≡ reply_number result.second) × (out.new ≡ out_altered.new) }
 {
-    let rows = sides.rows;
-    let cols = sides.cols;
+    let Sides { rows, cols } = sides;
     let first = pipeline::autoscale_db_image_to_u8(rows, cols, strategy, db, valid_mask, out, work);
     let second = pipeline::autoscale_db_image_to_u8(
         rows,
@@ -103,7 +81,7 @@ fn altered_grey_u8(
         out_altered,
         work,
     );
-    Replies { first, second }
+    TwoRuns { first, second }
 }
 
 // The grey call at 16 bits: from equal lists the same reply and the same list.
@@ -116,11 +94,10 @@ fn altered_grey_u16(
     out: &mut [u16],
     out_altered: &mut [u16],
     work: &mut [f64],
-) -> Replies
+) -> TwoRuns<Result<(), Refusal>>
     ensures greys_u16 { Altered valid_mask.now db.now db_altered.now → out.old ≡ out_altered.old → (reply_number result.first ≡ reply_number result.second) × (out.new ≡ out_altered.new) }
 {
-    let rows = sides.rows;
-    let cols = sides.cols;
+    let Sides { rows, cols } = sides;
     let first = pipeline::autoscale_db_image_to_u16(
         rows, cols, strategy, db, valid_mask, out, work,
     );
@@ -133,7 +110,7 @@ fn altered_grey_u16(
         out_altered,
         work,
     );
-    Replies { first, second }
+    TwoRuns { first, second }
 }
 
 // The picture call, either band altered or both: from equal lists the same reply and the same lists.
@@ -153,11 +130,10 @@ fn altered_picture(
     rgb: &mut [u8],
     rgb_altered: &mut [u8],
     work: &mut [f64],
-) -> Replies
+) -> TwoRuns<Result<(), Refusal>>
     ensures picture { Altered valid_mask1.now db1.now db1_altered.now → Altered valid_mask2.now db2.now db2_altered.now → grey1.old ≡ grey1_altered.old → grey2.old ≡ grey2_altered.old → rgb.old ≡ rgb_altered.old → (reply_number result.first ≡ reply_number result.second) × (grey1.new ≡ grey1_altered.new) × (grey2.new ≡ grey2_altered.new) × (rgb.new ≡ rgb_altered.new) }
 {
-    let rows = sides.rows;
-    let cols = sides.cols;
+    let Sides { rows, cols } = sides;
     let first = pipeline::synthetic_rgb_picture_copol(
         rows,
         cols,
@@ -184,7 +160,7 @@ fn altered_picture(
         rgb_altered,
         work,
     );
-    Replies { first, second }
+    TwoRuns { first, second }
 }
 
 // The windows of a picture, either band altered or both: the same refusal or the same windows.
@@ -198,11 +174,10 @@ fn altered_windows(
     db2: &[f64],
     db2_altered: &[f64],
     valid_mask2: &[u8],
-) -> PictureWindowsAnswers
+) -> TwoRuns<Result<PictureWindows, Refusal>>
     ensures windows { Altered valid_mask1.now db1.now db1_altered.now → Altered valid_mask2.now db2.now db2_altered.now → result.first ≡ result.second }
 {
-    let rows = sides.rows;
-    let cols = sides.cols;
+    let Sides { rows, cols } = sides;
     let first = pipeline::synthetic_rgb_windows(
         rows,
         cols,
@@ -223,5 +198,5 @@ fn altered_windows(
         db2_altered,
         valid_mask2,
     );
-    PictureWindowsAnswers { first, second }
+    TwoRuns { first, second }
 }

@@ -4,7 +4,7 @@ ghost use Rattle.std.specs.Prelude.{◌≡◌};
 ghost use Rattle.spec.specs.Answer.{reply_number};
 ghost use Rattle.demands.specs.GreyOrder.{OutsideClahe, Ranked};
 
-use types::{AutoscaleStrategy, PictureChoices, Reply, Sides};
+use types::{AutoscaleStrategy, PictureChoices, Refusal, Sides};
 
 // The grey call at 8 bits: if done, greys in the order of the decibels.
 fn ranked_grey_u8(
@@ -14,7 +14,7 @@ fn ranked_grey_u8(
     valid_mask: &[u8],
     out: &mut [u8],
     work: &mut [f64],
-) -> Reply
+) -> Result<(), Refusal>
     ensures greys_u8 { OutsideClahe strategy → reply_number result ≡ 0 → Ranked valid_mask.now db.now out.new }
 {
     pipeline::autoscale_db_image_to_u8(sides.rows, sides.cols, strategy, db, valid_mask, out, work)
@@ -28,7 +28,7 @@ fn ranked_grey_u16(
     valid_mask: &[u8],
     out: &mut [u16],
     work: &mut [f64],
-) -> Reply
+) -> Result<(), Refusal>
     ensures greys_u16 { OutsideClahe strategy → reply_number result ≡ 0 → Ranked valid_mask.now db.now out.new }
 {
     pipeline::autoscale_db_image_to_u16(sides.rows, sides.cols, strategy, db, valid_mask, out, work)
@@ -46,7 +46,7 @@ fn ranked_picture(
     grey2: &mut [u8],
     rgb: &mut [u8],
     work: &mut [f64],
-) -> Reply
+) -> Result<(), Refusal>
     ensures picture { OutsideClahe choices.strategy → reply_number result ≡ 0 → Ranked valid_mask1.now db1.now grey1.new × Ranked valid_mask2.now db2.now grey2.new }
 {
     pipeline::synthetic_rgb_picture_copol(

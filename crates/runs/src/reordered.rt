@@ -5,8 +5,8 @@ ghost use Rattle.spec.specs.Places.{moved};
 ghost use Rattle.demands.specs.Reordering.{Reorders, moved_triples};
 ghost use Rattle.runs.specs.Reordered.{MovedBand};
 
-use crate::Replies;
-use types::{PictureChoices, Sides};
+use crate::TwoRuns;
+use types::{PictureChoices, Refusal, Sides};
 
 // One order moves marks and decibels of both bands; lent lists of equal lengths. The same refusal, or both done: each grey and each colour is moved.
 fn reordered_picture(
@@ -27,11 +27,10 @@ fn reordered_picture(
     grey2_moved: &mut [u8],
     rgb_moved: &mut [u8],
     work: &mut [f64],
-) -> Replies
+) -> TwoRuns<Result<(), Refusal>>
     ensures picture { Reorders choices.strategy → (ps : List ℕ) → MovedBand ps valid_mask1.now db1.now valid_mask1_moved.now db1_moved.now → MovedBand ps valid_mask2.now db2.now valid_mask2_moved.now db2_moved.now → length grey1.old ≡ length grey1_moved.old → length grey2.old ≡ length grey2_moved.old → length rgb.old ≡ length rgb_moved.old → (reply_number result.first ≡ reply_number result.second) × (reply_number result.first ≡ 0 → (grey1_moved.new ≡ moved 0 ps grey1.new) × (grey2_moved.new ≡ moved 0 ps grey2.new) × (rgb_moved.new ≡ moved_triples ps rgb.new)) }
 {
-    let rows = sides.rows;
-    let cols = sides.cols;
+    let Sides { rows, cols } = sides;
     let first = pipeline::synthetic_rgb_picture_copol(
         rows,
         cols,
@@ -58,5 +57,5 @@ fn reordered_picture(
         rgb_moved,
         work,
     );
-    Replies { first, second }
+    TwoRuns { first, second }
 }

@@ -3,8 +3,8 @@ ghost use Rattle.std.specs.Prelude.{◌≡◌, length};
 ghost use Rattle.spec.specs.Answer.{reply_number};
 ghost use Rattle.demands.specs.Copol.{other_band};
 
-use crate::Replies;
-use types::{CoPol, PictureChoices, Sides};
+use crate::TwoRuns;
+use types::{CoPol, PictureChoices, Refusal, Sides};
 
 // The other of two bands.
 fn other_band(copol: CoPol) -> CoPol
@@ -31,11 +31,10 @@ fn swapped_picture(
     grey2_swapped: &mut [u8],
     rgb_swapped: &mut [u8],
     work: &mut [f64],
-) -> Replies
+) -> TwoRuns<Result<(), Refusal>>
     ensures picture { length grey1.old ≡ length grey2_swapped.old → length grey2.old ≡ length grey1_swapped.old → length rgb.old ≡ length rgb_swapped.old → (reply_number result.first ≡ reply_number result.second) × (reply_number result.first ≡ 0 → (grey1_swapped.new ≡ grey2.new) × (grey2_swapped.new ≡ grey1.new)) }
 {
-    let rows = sides.rows;
-    let cols = sides.cols;
+    let Sides { rows, cols } = sides;
     let first = pipeline::synthetic_rgb_picture_copol(
         rows,
         cols,
@@ -49,14 +48,9 @@ fn swapped_picture(
         rgb,
         work,
     );
-    let strategy = choices.strategy;
-    let mode = choices.mode;
-    let chosen = choices.copol;
-    let copol = other_band(chosen);
     let swapped = PictureChoices {
-        strategy,
-        mode,
-        copol,
+        copol: other_band(choices.copol),
+        ..choices
     };
     let second = pipeline::synthetic_rgb_picture_copol(
         rows,
@@ -71,5 +65,5 @@ fn swapped_picture(
         rgb_swapped,
         work,
     );
-    Replies { first, second }
+    TwoRuns { first, second }
 }

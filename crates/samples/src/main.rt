@@ -3,7 +3,7 @@
 use numeric::Binary;
 use std::fmt::{self, Display};
 use std::io;
-use types::{AutoscaleStrategy, Reply, StatisticsAnswer, SyntheticRgbMode, WindowAnswer};
+use types::{AutoscaleStrategy, Refusal, SyntheticRgbMode};
 
 // ---- printing
 
@@ -27,12 +27,12 @@ impl<T: Display> Display for Listed<'_, T> {
 fn reply(
     rt: &impl Print,
     line: impl Display + Drop,
-    reply: Reply,
+    reply: Result<(), Refusal>,
     left: impl Display + Drop,
 ) -> io::Result<()> {
     match reply {
-        Reply::Done => println!(rt; "{line}: {left}"),
-        Reply::Refused(k) => println!(rt; "{line}: refused {k}"),
+        Ok(()) => println!(rt; "{line}: {left}"),
+        Err(refusal) => println!(rt; "{line}: {refusal}"),
     }
 }
 
@@ -40,13 +40,13 @@ fn reply(
 
 fn statistics(rt: &impl Print) -> io::Result<()> {
     match histogram::compute_histogram_stats(1, 2, &[0.0, 10.0], &[1, 1]) {
-        StatisticsAnswer::Statistics(s) => {
+        Ok(s) => {
             println!(rt; "dB 0, 10: p05 = {}, p95 = {}", s.p05, s.p95)?;
         }
-        StatisticsAnswer::Refused(k) => println!(rt; "dB 0, 10: refused {k}")?,
+        Err(refusal) => println!(rt; "dB 0, 10: {refusal}")?,
     }
     match histogram::compute_histogram_stats(1, 1, &[-12.5], &[1]) {
-        StatisticsAnswer::Statistics(s) => {
+        Ok(s) => {
             let all = [
                 s.median_db,
                 s.p01,
@@ -62,9 +62,7 @@ fn statistics(rt: &impl Print) -> io::Result<()> {
             ];
             println!(rt; "One pixel -12.5, all percentiles: {}", Listed(&all))
         }
-        StatisticsAnswer::Refused(k) => {
-            println!(rt; "One pixel -12.5, all percentiles: refused {k}")
-        }
+        Err(refusal) => println!(rt; "One pixel -12.5, all percentiles: {refusal}"),
     }
 }
 
@@ -81,7 +79,15 @@ fn grey<T, F, const N: usize>(
 ) -> io::Result<()>
 where
     T: Display + Copy,
-    F: FnOnce(usize, usize, AutoscaleStrategy, &[f64], &[u8], &mut [T], &mut [f64]) -> Reply,
+    F: FnOnce(
+        usize,
+        usize,
+        AutoscaleStrategy,
+        &[f64],
+        &[u8],
+        &mut [T],
+        &mut [f64],
+    ) -> Result<(), Refusal>,
     requires { F.IsAlwaysCallable call }
 {
     let answer = call(1, N, strategy, &db, &[1; N], &mut out, &mut [0.0; 16384]);
@@ -155,9 +161,9 @@ fn window(
     valid_mask: &[u8],
 ) -> io::Result<()> {
     match autoscale::autoscale_window(strategy, 1, cols, db, valid_mask) {
-        WindowAnswer::Window { gamma, .. } => println!(rt; "{line}: gamma {gamma:?}"),
-        WindowAnswer::Blank => println!(rt; "{line}: blank"),
-        WindowAnswer::Refused(k) => println!(rt; "{line}: refused {k}"),
+        Ok(Some(window)) => println!(rt; "{line}: gamma {:?}", window.gamma),
+        Ok(None) => println!(rt; "{line}: blank"),
+        Err(refusal) => println!(rt; "{line}: {refusal}"),
     }
 }
 

@@ -6,7 +6,7 @@ use Rattle.types.specs.declared.AutoscaleStrategy.{AutoscaleStrategy}
 use Rattle.types.specs.declared.AutoscaleStrategy.TheVariants.{Standard, Robust, Adaptive, Equalized, Clahe, Tamed, Default}
 use Rattle.types.specs.declared.HistogramStats.{HistogramStats}
 use Rattle.spec.specs.Answer.{Answer, refused, done}
-use Rattle.spec.specs.Window.{window_of, read_window}
+use Rattle.spec.specs.Window.{window_of, window_floats}
 use Rattle.types.specs.declared.Lent.{Lent}
 use Rattle.spec.specs.Picture.{Picture}
 use Rattle.spec.specs.Colour.{bytes_of}
@@ -52,7 +52,7 @@ window_bits (done xs) = 0 ∷ map (to_bits binary64) xs
 -- the windows of all seven strategies from one record
 abbrev pub all_windows : HistogramStats → List ℕ
 all_windows s =
-    let w : AutoscaleStrategy → List ℕ = λ strategy. window_bits (read_window (window_of strategy s)) in
+    let w : AutoscaleStrategy → List ℕ = λ strategy. window_bits (done (window_floats (window_of strategy s))) in
     w Standard ++ w Robust ++ w Adaptive ++ w Equalized ++ w Clahe ++ w Tamed ++ w Default
 
 -- grey 1, grey 2, colours

@@ -1,7 +1,7 @@
 -- The table of replies. Definitions only.
-use Rattle.std.specs.Prelude.{ℕ, zero, suc, Bool, true, false, List, [], ◌∷◌}
-use Rattle.types.specs.declared.Reply.{Reply}
-use Rattle.types.specs.declared.Reply.TheVariants.{Done, Refused}
+use Rattle.std.specs.Prelude.{ℕ, zero, suc, Bool, true, false, List, [], ◌∷◌, Result, Ok, Err}
+use Rattle.types.specs.declared.refusal.Refusal.{Refusal}
+use Rattle.types.specs.Replies.{refusal_number}
 
 -- a call answers by a refusal's number, or is done and leaves what it owes
 pub data Answer (A : Type 0) : Type 0 where
@@ -27,10 +27,15 @@ unfoldable pub number : {A : Type 0} → Answer A → ℕ
 number (refused k) = k
 number (done a) = 0
 
--- the number that a `Reply` stands for
-unfoldable pub reply_number : Reply → ℕ
-reply_number Done = 0
-reply_number (Refused k) = k
+-- the number that a call's reply stands for
+unfoldable pub reply_number : {A : Type 0} → Result A Refusal → ℕ
+reply_number (Ok a) = 0
+reply_number (Err refusal) = refusal_number refusal
+
+-- document 01's number and values for each case of a reply
+unfoldable pub read : {A : Type 0} → Result A Refusal → Answer A
+read (Ok a) = done a
+read (Err refusal) = refused (refusal_number refusal)
 
 -- a lent list afterwards: "outputs fully written", or "all lent memory as at entry"
 unfoldable pub after : {A B : Type 0} → (A → List B) → Answer A → List B → List B

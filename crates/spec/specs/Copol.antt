@@ -7,9 +7,7 @@ use Rattle.types.specs.declared.CoPol.TheVariants.{Band1, Band2}
 use Rattle.types.specs.declared.Lent.{Lent}
 use Rattle.types.specs.declared.PictureChoices.{PictureChoices}
 use Rattle.types.specs.declared.PictureWindows.{PictureWindows}
-use Rattle.types.specs.declared.PictureWindows.TheVariants as Both
-use Rattle.types.specs.declared.WindowAnswer.{WindowAnswer}
-use Rattle.spec.specs.Answer.{Answer, refused, done, first_of, answer}
+use Rattle.spec.specs.Answer.{Answer, first_of, answer}
 use Rattle.spec.specs.Pixels.{Pixel, pixels}
 use Rattle.spec.specs.Refusals.{sides_refused, lengths_refused, marks_refused, decibels_refused}
 use Rattle.spec.specs.Statistics.{statistics_of}
@@ -25,13 +23,8 @@ unfoldable pub second_is_copol : CoPol → Bool
 second_is_copol Band1 = false
 second_is_copol Band2 = true
 
--- the windows of band 1 and of band 2, each a window with its floats or blank
-pub record TwoWindows : Type 0 where
-  pub first : WindowAnswer
-  pub second : WindowAnswer
-
--- the windows that two bands are painted with
-abbrev pub windows_of : AutoscaleStrategy → CoPol → List Pixel → List Pixel → TwoWindows
+-- the windows that two bands are painted with, each a window with its floats or blank
+abbrev pub windows_of : AutoscaleStrategy → CoPol → List Pixel → List Pixel → PictureWindows
 windows_of strategy copol px1 px2 =
     record { first = picture_window strategy (first_is_copol copol) (statistics_of px1); second = picture_window strategy (second_is_copol copol) (statistics_of px2) }
 
@@ -45,13 +38,8 @@ synthetic_rgb_picture_copol choices rows cols marks1 db1 marks2 db2 lent =
     let painted = composed strategy (picture_greys strategy rows cols px1 w.first) (picture_greys strategy rows cols px2 w.second) in
     answer (first_of 1 (picture_tests strategy rows cols marks1 db1 marks2 db2 lent px1 px2)) painted
 
--- the number and values for each case of the declared answer
-unfoldable pub read_windows : PictureWindows → Answer TwoWindows
-read_windows (Both.Windows w1 w2) = done (record { first = w1; second = w2 })
-read_windows (Both.Refused k) = refused k
-
 -- the call for the windows that a picture paints its bands with: refusals 1 to 4, each over both bands, then both windows
-unfoldable pub synthetic_rgb_windows : AutoscaleStrategy → CoPol → ℕ → ℕ → List ℕ → List Float → List ℕ → List Float → Answer TwoWindows
+unfoldable pub synthetic_rgb_windows : AutoscaleStrategy → CoPol → ℕ → ℕ → List ℕ → List Float → List ℕ → List Float → Answer PictureWindows
 synthetic_rgb_windows strategy copol rows cols marks1 db1 marks2 db2 =
     let px1 = pixels marks1 db1 in
     let px2 = pixels marks2 db2 in

@@ -1,8 +1,7 @@
 -- The grey calls. Definitions only.
-use Rattle.std.specs.Prelude.{ℕ, ◌*◌, Bool, cond, ◌||◌, List, [], ◌∷◌, ◌++◌, map, Float}
+use Rattle.std.specs.Prelude.{ℕ, ◌*◌, Bool, cond, ◌||◌, List, [], ◌∷◌, ◌++◌, map, Float, Option, Some, None}
 use Rattle.types.specs.declared.AutoscaleStrategy.{AutoscaleStrategy}
-use Rattle.types.specs.declared.WindowAnswer.{WindowAnswer}
-use Rattle.types.specs.declared.WindowAnswer.TheVariants.{Window, Blank, Refused}
+use Rattle.types.specs.declared.WindowFloats.{WindowFloats}
 use Rattle.spec.specs.Answer.{Answer, first_of, answer}
 use Rattle.spec.specs.Pixels.{Pixel, off, on, pixels}
 use Rattle.spec.specs.Refusals.{sides_refused, lengths_refused, unlike, work_refused, marks_refused, decibels_refused, tiles_refused}
@@ -24,12 +23,11 @@ unfoldable pub black : List Pixel → List ℕ
 black px = map (λ p. 0) px
 
 -- the values of a band from its window, before any stretch
-unfoldable pub values : BitDepth → AutoscaleStrategy → ℕ → ℕ → List Pixel → WindowAnswer → List ℕ
-values depth strategy rows cols px Blank = black px
-values depth strategy rows cols px (Refused k) = black px
-values depth strategy rows cols px (Window low high range gamma) =
-    let tiles = clahe_values (full_of depth) rows cols (map (normal_pixel low high range) px) in
-    let plain = map (paint (grey_value depth gamma low high range)) px in
+unfoldable pub values : BitDepth → AutoscaleStrategy → ℕ → ℕ → List Pixel → Option WindowFloats → List ℕ
+values depth strategy rows cols px None = black px
+values depth strategy rows cols px (Some w) =
+    let tiles = clahe_values (full_of depth) rows cols (map (normal_pixel w.low w.high w.range) px) in
+    let plain = map (paint (grey_value depth w.gamma w.low w.high w.range)) px in
     cond (is_clahe strategy) tiles plain
 
 -- the five tests of every grey call

@@ -1,10 +1,10 @@
 -- The picture call: "both go to U8, into two lent grey outputs, then colours". Definitions only.
-use Rattle.std.specs.Prelude.{ℕ, ◌*◌, Bool, true, false, cond, ◌||◌, List, [], ◌∷◌, Float}
+use Rattle.std.specs.Prelude.{ℕ, ◌*◌, Bool, true, false, cond, ◌||◌, List, [], ◌∷◌, Float, Option}
 use Rattle.types.specs.declared.AutoscaleStrategy.{AutoscaleStrategy}
 use Rattle.types.specs.declared.SyntheticRgbMode.{SyntheticRgbMode}
 use Rattle.types.specs.declared.Lent.{Lent}
 use Rattle.types.specs.declared.Rgb.{Rgb}
-use Rattle.types.specs.declared.WindowAnswer.{WindowAnswer}
+use Rattle.types.specs.declared.WindowFloats.{WindowFloats}
 use Rattle.spec.specs.Answer.{Answer, first_of, answer}
 use Rattle.spec.specs.Pixels.{Pixel, pixels}
 use Rattle.spec.specs.Refusals.{sides_refused, lengths_refused, unlike, work_refused, marks_refused, decibels_refused, tiles_refused}
@@ -23,7 +23,7 @@ pub record Picture : Type 0 where
   pub colours : List Rgb
 
 -- the U8 greys of one band of a picture; Tamed: "no stretch"
-unfoldable pub picture_greys : AutoscaleStrategy → ℕ → ℕ → List Pixel → WindowAnswer → List ℕ
+unfoldable pub picture_greys : AutoscaleStrategy → ℕ → ℕ → List Pixel → Option WindowFloats → List ℕ
 picture_greys strategy rows cols px w =
     let raw = values U8 strategy rows cols px w in
     cond (is_tamed strategy) raw (stretch raw)

@@ -6,11 +6,9 @@ use Rattle.types.specs.declared.HistogramStats.{HistogramStats}
 use Rattle.types.specs.declared.Moments.{Moments}
 use Rattle.types.specs.declared.Percentile.{Percentile}
 use Rattle.types.specs.declared.Place.{Place}
-use Rattle.types.specs.declared.StatisticsAnswer.{StatisticsAnswer}
-use Rattle.types.specs.declared.StatisticsAnswer.TheVariants.{Statistics, Refused}
 use Rattle.spec.specs.Floats.{zero64, half64, of_count}
 use Rattle.spec.specs.Root.{sqrt_float}
-use Rattle.spec.specs.Answer.{Answer, refused, done, first_of, answer}
+use Rattle.spec.specs.Answer.{Answer, first_of, answer}
 use Rattle.spec.specs.Pixels.{Pixel, pixels, valid_of}
 use Rattle.spec.specs.Refusals.{sides_refused, lengths_refused, marks_refused, decibels_refused}
 use Rattle.spec.specs.Moments.{no_moments, moments_from}
@@ -70,8 +68,3 @@ compute_histogram_stats rows cols marks db =
     let px = pixels marks db in
     let stats = placed_statistics cols px in
     answer (first_of 1 (sides_refused rows cols ∷ lengths_refused rows cols marks db ∷ marks_refused marks ∷ decibels_refused px ∷ [])) stats
-
--- document 01's number and values for each case of the declared answer
-unfoldable pub read_statistics : StatisticsAnswer → Answer HistogramStats
-read_statistics (Statistics s) = done s
-read_statistics (Refused k) = refused k

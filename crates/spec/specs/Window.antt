@@ -1,13 +1,14 @@
 -- "A window answer is a window with its floats, or blank, or a refusal (1 to 4 only)." Definitions only.
-use Rattle.std.specs.Prelude.{ℕ, Bool, true, false, cond, List, [], ◌∷◌, eqb, Float}
+use Rattle.std.specs.Prelude.{ℕ, Bool, true, false, cond, List, [], ◌∷◌, eqb, Float, Option, Some, None, Result, Ok, Err}
 use Rattle.std.specs.Float.{binary64}
 use Rattle.std.specs.Float.Ieee.{add, sub, mul, div, lt, ne, of_bits}
 use Rattle.types.specs.declared.AutoscaleStrategy.{AutoscaleStrategy}
 use Rattle.types.specs.declared.AutoscaleStrategy.TheVariants.{Standard, Robust, Adaptive, Equalized, Clahe, Tamed, Default}
 use Rattle.types.specs.declared.Clip.{Clip}
 use Rattle.types.specs.declared.HistogramStats.{HistogramStats}
-use Rattle.types.specs.declared.WindowAnswer.{WindowAnswer}
-use Rattle.types.specs.declared.WindowAnswer.TheVariants.{Window, Blank, Refused}
+use Rattle.types.specs.declared.WindowFloats.{WindowFloats}
+use Rattle.types.specs.declared.refusal.Refusal.{Refusal}
+use Rattle.types.specs.Replies.{refusal_number}
 use Rattle.spec.specs.Floats.{zero64, half64, one64, two64, max_float, min_float, abs_float}
 use Rattle.spec.specs.Strategies.{is_tamed}
 use Rattle.spec.specs.Answer.{Answer, refused, done, first_of, or_refused}
@@ -20,8 +21,8 @@ abbrev pub between : Float → Float → Float → Clip
 between l h g = record { low = l; high = h; gamma = g }
 
 -- "It names low, high, range = max(high - low, 1.0) and gamma"
-unfoldable pub opened : Clip → WindowAnswer
-opened c = Window c.low c.high (max_float (sub binary64 c.high c.low) one64) c.gamma
+unfoldable pub opened : Clip → WindowFloats
+opened c = record { low = c.low; high = c.high; range = max_float (sub binary64 c.high c.low) one64; gamma = c.gamma }
 
 -- the gammas
 abbrev pub gamma08 : Float
@@ -100,11 +101,11 @@ choose_clip Tamed s = between s.p25 s.p99 one64
 choose_clip Default s = between s.p05 s.p95 one64
 
 -- blank without a valid pixel
-abbrev pub open_window : ℕ → Clip → WindowAnswer
-open_window valid c = cond (eqb valid 0) Blank (opened c)
+abbrev pub open_window : ℕ → Clip → Option WindowFloats
+open_window valid c = cond (eqb valid 0) None (Some (opened c))
 
 -- "blank exactly if no refusal applies and no mark is 1"
-unfoldable pub window_of : AutoscaleStrategy → HistogramStats → WindowAnswer
+unfoldable pub window_of : AutoscaleStrategy → HistogramStats → Option WindowFloats
 window_of strategy s = open_window s.valid_count (choose_clip strategy s)
 
 -- "The Tamed picture path .. low min(p02, p05) co-pol or p05 cross-pol, high p99"
@@ -117,24 +118,27 @@ abbrev pub picture_clip : AutoscaleStrategy → Bool → HistogramStats → Clip
 picture_clip strategy copol s = cond (is_tamed strategy) (tamed_clip copol s) (choose_clip strategy s)
 
 -- the window that a picture paints a band with
-unfoldable pub picture_window : AutoscaleStrategy → Bool → HistogramStats → WindowAnswer
+unfoldable pub picture_window : AutoscaleStrategy → Bool → HistogramStats → Option WindowFloats
 picture_window strategy copol s = open_window s.valid_count (picture_clip strategy copol s)
 
 -- 6: "whose chosen gamma is not 1.0"; F-1: "for U16 only"
-unfoldable pub gamma_refused : WindowAnswer → Bool
-gamma_refused (Window low high range gamma) = ne gamma one64
-gamma_refused Blank = false
-gamma_refused (Refused k) = false
+unfoldable pub gamma_refused : Option WindowFloats → Bool
+gamma_refused (Some w) = ne w.gamma one64
+gamma_refused None = false
 
--- document 01's number and values for each case of the declared answer: low, high, range and gamma, or nothing for a blank window
-unfoldable pub read_window : WindowAnswer → Answer (List Float)
-read_window (Window low high range gamma) = done (low ∷ high ∷ range ∷ gamma ∷ [])
-read_window Blank = done []
-read_window (Refused k) = refused k
+-- low, high, range and gamma, or nothing for a blank window
+unfoldable pub window_floats : Option WindowFloats → List Float
+window_floats (Some w) = w.low ∷ w.high ∷ w.range ∷ w.gamma ∷ []
+window_floats None = []
+
+-- document 01's number and values for each case of the window call's reply
+unfoldable pub read_window : Result (Option WindowFloats) Refusal → Answer (List Float)
+read_window (Ok w) = done (window_floats w)
+read_window (Err refusal) = refused (refusal_number refusal)
 
 -- the window call: refusals 1 to 4, then the window
 unfoldable pub autoscale_window : AutoscaleStrategy → ℕ → ℕ → List ℕ → List Float → Answer (List Float)
 autoscale_window strategy rows cols marks db =
     let px = pixels marks db in
     let w = window_of strategy (statistics_of px) in
-    or_refused (first_of 1 (sides_refused rows cols ∷ lengths_refused rows cols marks db ∷ marks_refused marks ∷ decibels_refused px ∷ [])) (read_window w)
+    or_refused (first_of 1 (sides_refused rows cols ∷ lengths_refused rows cols marks db ∷ marks_refused marks ∷ decibels_refused px ∷ [])) (done (window_floats w))

@@ -1,4 +1,5 @@
 -- Document 02, F-2, on two bands of the decibels 0 to 20 in one row. Statements only: the proofs are in proofs/.
+use Rattle.std.specs.Prelude.{Some, None}
 use Rattle.std.specs.Prelude.{ℕ, ◌≡◌, List, [], ◌∷◌, map, Float, replicate}
 use Rattle.std.specs.Float.{nan}
 use Rattle.types.specs.declared.AutoscaleStrategy.{AutoscaleStrategy}
@@ -6,7 +7,6 @@ use Rattle.types.specs.declared.AutoscaleStrategy.TheVariants.{Tamed, Default}
 use Rattle.types.specs.declared.CoPol.{CoPol}
 use Rattle.types.specs.declared.CoPol.TheVariants.{Band1, Band2}
 use Rattle.types.specs.declared.SyntheticRgbMode.TheVariants.{Default as Plain}
-use Rattle.types.specs.declared.WindowAnswer.TheVariants.{Window, Blank}
 use Rattle.spec.specs.Answer.{Answer, refused, done, after}
 use Rattle.spec.specs.Copol.{synthetic_rgb_picture_copol, synthetic_rgb_windows}
 use Rattle.spec.specs.Floats.{of_count, one64}
@@ -47,5 +47,5 @@ pub record CopolSamples : Type 0 where
   pub by_default : (grey1 Default Band1 ≡ within_p95) × (grey1 Default Band2 ≡ within_p95) × (grey2 Default Band1 ≡ within_p95) × (grey2 Default Band2 ≡ within_p95)
   -- the windows: one pixel and a blank band; a bad decibel of band 2
   pub windows :
-      synthetic_rgb_windows Tamed Band1 1 1 (1 ∷ []) (of_count 3 ∷ []) (0 ∷ []) (nan ∷ []) ≡ done (record { first = Window (of_count 3) (of_count 3) one64 one64; second = Blank })
+      synthetic_rgb_windows Tamed Band1 1 1 (1 ∷ []) (of_count 3 ∷ []) (0 ∷ []) (nan ∷ []) ≡ done (record { first = Some (record { low = of_count 3; high = of_count 3; range = one64; gamma = one64 }); second = None })
   pub not_a_number : synthetic_rgb_windows Tamed Band1 1 1 (1 ∷ []) (of_count 3 ∷ []) (1 ∷ []) (nan ∷ []) ≡ refused 4

@@ -8,15 +8,13 @@ ghost use Rattle.spec.specs.Stretch.{stretch_byte, scale_u16_to_u8};
 ghost use Rattle.stretch.specs.Tables.{Stretches};
 
 use numeric::Binary;
-use types::Reply;
+use types::Refusal;
 
 // z to the nearest whole number, half away from zero, held to 0..255.
 fn round_byte(z: f32) -> u8
     ensures { result ≡ min (round_as_u64 z) 255 }
 {
-    let n = z.round_as_u64();
-    // Kept: `n.min(255) as u8` takes a jump more for each pixel.
-    if n < 255 { n as u8 } else { 255 }
+    z.round_as_u64().min(255) as u8
 }
 
 // A value of at most 16 bits.
@@ -71,14 +69,15 @@ impl Ends {
         ensures { result ≡ stretch_byte self.lo self.hi x }
     {
         if self.lo < self.hi {
-            let scale = 255.0 / (self.hi as f32 - self.lo as f32);
-            round_byte((x as f32 - self.lo as f32) * scale)
+            let scale = 255.0 / (f32::from(self.hi) - f32::from(self.lo));
+            round_byte((f32::from(x) - f32::from(self.lo)) * scale)
         } else {
             0
         }
     }
 
     // Each value by itself.
+    // Kept: that the output is as long is a clause, since a struct of both lists would be made at each call and say no more.
     fn stretch_each(self, data: &[u16], out: &mut [u8])
         requires { length out.old ≡ length «data».now }
         ensures { out.new ≡ map (stretch_byte self.lo self.hi) «data».now }
@@ -94,8 +93,8 @@ impl Ends {
         requires fact_2 { n ≤ N }
         ensures { Stretches self.lo self.hi n table.new }
     {
-        for i in 0..n {
-            table[i] = self.byte(i as u16);
+        for (i, value) in table[..n].iter_mut().enumerate() {
+            *value = self.byte(i as u16);
         }
     }
 
@@ -109,13 +108,18 @@ impl Ends {
         self.fill_table(usize::from(self.hi) + 1, &mut table);
         look_up(data, &table, out);
     }
-}
 
-// Those of bytes.
-pub fn ends_of_bytes(bytes: &[u8]) -> Ends
-    ensures { (result.lo ≡ lowest 65535 bytes.now) × (result.hi ≡ highest 0 bytes.now) }
-{
-    Ends::of(bytes)
+    // Bytes stretched in place. Between 0 and 255 nothing changes.
+    pub fn stretch_bytes(self, bytes: &mut [u8])
+        ensures { bytes.new ≡ map (stretch_byte self.lo self.hi) bytes.old }
+    {
+        if self.lo == 0 && self.hi == 255 {
+            return;
+        }
+        let mut table = [0u8; 256];
+        self.fill_table(256, &mut table);
+        look_up_bytes(bytes, &table);
+    }
 }
 
 // Each value's entry.
@@ -139,15 +143,15 @@ fn look_up_bytes(bytes: &mut [u8], table: &[u8; 256])
 }
 
 // The stretch by itself: refused with 2 unless the lengths are equal and at most 16,777,216.
-pub fn scale_u16_to_u8(data: &[u16], out: &mut [u8]) -> Reply
+pub fn scale_u16_to_u8(data: &[u16], out: &mut [u8]) -> Result<(), Refusal>
     ensures result_value { reply_number result ≡ number (scale_u16_to_u8 «data».now (length out.old)) }
     ensures out_after { out.new ≡ after (λ l. l) (scale_u16_to_u8 «data».now (length out.old)) out.old }
 {
     if data.len() > 16777216 {
-        return Reply::Refused(2);
+        return Err(Refusal::Lengths);
     }
     if out.len() != data.len() {
-        return Reply::Refused(2);
+        return Err(Refusal::Lengths);
     }
     let ends = Ends::of(data);
     if data.len() < 65536 {
@@ -155,17 +159,5 @@ pub fn scale_u16_to_u8(data: &[u16], out: &mut [u8]) -> Reply
     } else {
         ends.stretch_by_table(data, out);
     }
-    Reply::Done
-}
-
-// Bytes stretched in place between given ends. Between 0 and 255 nothing changes.
-pub fn stretch_bytes(bytes: &mut [u8], lo: u16, hi: u16)
-    ensures { bytes.new ≡ map (stretch_byte lo hi) bytes.old }
-{
-    if lo == 0 && hi == 255 {
-        return;
-    }
-    let mut table = [0u8; 256];
-    Ends { lo, hi }.fill_table(256, &mut table);
-    look_up_bytes(bytes, &table);
+    Ok(())
 }

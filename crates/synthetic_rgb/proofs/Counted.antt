@@ -1,11 +1,10 @@
 -- Counts by storing, a byte at a time, and the first level that reaches a target, a level at a time. Assumes nothing.
 use mathlib.Core.Path.{◌≡◌}
-use mathlib.Core.Bool.{cond}
 use mathlib.Core.List.{List, [], ◌∷◌, ◌++◌}
 use Prim.Native.Nat.{ℕ, suc, ◌+◌, ◌≤◌, ◌<◌}
 use native.Mathlib.Omega.{arith}
 use native.Mathlib.Numerals.{add-one}
-use lib.Dec.{leb}
+use borrow.Author.Tests.{le-leb, lt-leb}
 use lib.ListN.{length, drop, get_or, drop_of_length-le}
 use lib.Seq.{drop-cons}
 use Rattle.lists.proofs.Counts.{Below}
@@ -25,11 +24,16 @@ stored_end h xs i l = rw (drop_of_length-le xs l)
 
 -- ---- the first level
 
-pub level_step : (target before level : ℕ) (hs : List ℕ) → level < length hs →
-    first_level target before level (drop level hs)
-    ≡ cond (leb target (before + get_or hs level 0)) level (first_level target (before + get_or hs level 0) (level + 1) (drop (level + 1) hs))
+-- one turn: the level reaches the target, or the next is tried
+pub level_found : (target before level : ℕ) (hs : List ℕ) → level < length hs → target ≤ before + get_or hs level 0 →
+    first_level target before level (drop level hs) ≡ level
 unfolding first_level
-level_step target before level hs l = rw (add-one level, drop-cons hs level 0)
+level_found target before level hs l hit = rw (drop-cons hs level 0, le-leb target (before + get_or hs level 0) hit)
+
+pub level_next : (target before level : ℕ) (hs : List ℕ) → level < length hs → before + get_or hs level 0 < target →
+    first_level target before level (drop level hs) ≡ first_level target (before + get_or hs level 0) (level + 1) (drop (level + 1) hs)
+unfolding first_level
+level_next target before level hs l miss = rw (add-one level, drop-cons hs level 0, lt-leb target (before + get_or hs level 0) miss)
 
 pub level_end : (target before level : ℕ) (hs : List ℕ) → length hs ≤ level → first_level target before level (drop level hs) ≡ 0
 unfolding first_level

@@ -2,7 +2,7 @@
 use mathlib.Core.Path.{◌≡◌, refl, ◌∙◌, fun_ext}
 use mathlib.Core.Bool.{Bool, true, false, cond, ◌&&◌}
 use mathlib.Core.List.{List}
-use Prim.Native.Nat.{ℕ, zero, suc, ◌+◌, ◌*◌, ◌-◌, ◌/◌, ◌%◌, ◌≤◌, ◌<◌}
+use Prim.Native.Nat.{ℕ, zero, suc, ◌+◌, ◌-◌, ◌/◌, ◌%◌, ◌≤◌, ◌<◌}
 use native.Mathlib.Nat.{le_trans, add-zero, mul-le-mul_left}
 use native.Mathlib.Omega.{arith}
 use borrow.Author.Tests.{eqb-false, leb-true}
@@ -10,7 +10,7 @@ use lib.Dec.{leb}
 use lib.ListN.{length, get_or}
 use Rattle.types.specs.declared.Rgb.{Rgb}
 use Rattle.spec.specs.Colour.{red, green, blue, red_above, green_above, blue_above, plain, suppressed}
-use Rattle.colour_tables.specs.Tables.{Rank, Thresholds}
+use Rattle.colour_tables.specs.Tables.{d_at, Rank, Thresholds}
 use Rattle.colour_tables.proofs.Laws.{red_rises, red-above_rises, level-byte, green_positive, red-above-dark, green-above-dark}
 use Rattle.synthetic_rgb.specs.declared.Composition.{Composition}
 use Rattle.synthetic_rgb.specs.declared.Composition.TheVariants.{Plain, Suppressed}
@@ -34,18 +34,18 @@ greens-byte (Suppressed f) v = level-byte _ _ _
 -- ---- places
 
 -- a place reached by a ratio is reached by one with more red
-pub reached_more : (t : List ℕ) {r r' : ℕ} (g k : ℕ) → r ≤ r' → Reached t r g k → Reached t r' g k
-reached_more t g k l h = record { within = h.within; reaches = λ p. le_trans (h.reaches p) (mul-le-mul_left (get_or t (2 * k + 1) 0) l) }
+pub reached_more : (t : List (List ℕ)) {r r' : ℕ} (g k : ℕ) → r ≤ r' → Reached t r g k → Reached t r' g k
+reached_more t g k l h = record { within = h.within; reaches = λ p. le_trans (h.reaches p) (mul-le-mul_left (d_at t k) l) }
 
-pub rank_reached : {t : List ℕ} {r g k : ℕ} → Rank t r g k → Reached t r g k
+pub rank_reached : {t : List (List ℕ)} {r g k : ℕ} → Rank t r g k → Reached t r g k
 rank_reached h = record { within = h.within; reaches = h.reaches }
 
 -- place 0 counts as reached
-pub reached-first : (t : List ℕ) (r g : ℕ) → 2 ≤ length t → Reached t r g 0
+pub reached-first : (t : List (List ℕ)) (r g : ℕ) → 1 ≤ length t → Reached t r g 0
 reached-first t r g l = record { within = omega arith; reaches = λ p. absurd (omega arith) }
 
 -- within a row, the pair before reaches the place
-abbrev pub Placed : Composition → List ℕ → ℕ → ℕ → Type 0
+abbrev pub Placed : Composition → List (List ℕ) → ℕ → ℕ → Type 0
 Placed kind t i place = 0 < i % 256 → Reached t (red_of kind (i % 256 - 1) + epsilon kind) (green_of kind (i / 256) + epsilon kind) place
 
 -- a ratio has no zero below it where blue is asked for
@@ -56,7 +56,7 @@ lit_positive Plain v1 (suc v) e = let h : 0 < green (suc v) = green_positive (om
 lit_positive (Suppressed f) v1 v2 e = omega arith
 
 -- the place of the ratio is the blue of a pixel that is not dark
-pub blue_is : (kind : Composition) (t : List ℕ) (v1 v2 k : ℕ) → Thresholds (scale_of kind) (epsilon kind) t →
+pub blue_is : (kind : Composition) (t : List (List ℕ)) (v1 v2 k : ℕ) → Thresholds (scale_of kind) (epsilon kind) t →
     Rank t (red_of kind v1 + epsilon kind) (green_of kind v2 + epsilon kind) k → cond (is_dark kind v1 v2) 0 k ≡ blue_of kind v1 v2
 unfolding blue_of ratio_of
 blue_is kind t v1 v2 k h rank = pick (is_dark kind v1 v2) refl
@@ -72,7 +72,7 @@ unfolding colour_at
 tint_is kind v1 v2 e f h = rw (e, f, h)
 
 -- a pixel by the tables
-pub colour_is : (kind : Composition) (red green t : List ℕ) (v1 v2 k b : ℕ) → v1 < 256 → v2 < 256 → Palette kind red green t →
+pub colour_is : (kind : Composition) (red green : List ℕ) (t : List (List ℕ)) (v1 v2 k b : ℕ) → v1 < 256 → v2 < 256 → Palette kind red green t →
     Rank t (get_or red v1 0 + epsilon kind) (get_or green v2 0 + epsilon kind) k → b ≡ cond (is_dark kind v1 v2) 0 k →
     ◌≡◌ {A = Rgb} (record { r = get_or red v1 0; g = get_or green v2 0; b = b }) (colour_at kind v1 v2)
 colour_is kind red green t v1 v2 k b h1 h2 p rank e =

@@ -2,7 +2,7 @@
 use Rattle.std.specs.Prelude.{◌≡◌, Bool, cond, ◌&&◌, List, ℕ, ◌+◌, ◌*◌, ◌^◌, ◌≤◌, ◌<◌, leb, eqb, length, get_or, set}
 use Rattle.types.specs.declared.Rgb.{Rgb}
 use Rattle.spec.specs.Colour.{level, red, green, red_above, green_above}
-use Rattle.colour_tables.specs.Tables.{Table, Thresholds}
+use Rattle.colour_tables.specs.Tables.{Table, n_at, d_at, Thresholds}
 use Rattle.synthetic_rgb.specs.declared.Composition.{Composition}
 use Rattle.synthetic_rgb.specs.declared.Composition.TheVariants.{Plain, Suppressed}
 
@@ -40,15 +40,15 @@ unfoldable pub colour_at : Composition → ℕ → ℕ → Rgb
 colour_at kind v1 v2 = record { r = red_of kind v1; g = green_of kind v2; b = blue_of kind v1 v2 }
 
 -- the tables of a composition: red, green, and the thresholds of blue
-pub record Palette (kind : Composition) (red green thresholds : List ℕ) : Type 0 where
+pub record Palette (kind : Composition) (red green : List ℕ) (thresholds : List (List ℕ)) : Type 0 where
   pub reds : Table (red_of kind) red
   pub greens : Table (green_of kind) green
   pub ratios : Thresholds (scale_of kind) (epsilon kind) thresholds
 
 -- r / g reaches the threshold at place k
-pub record Reached (t : List ℕ) (r g k : ℕ) : Type 0 where
-  pub within : 2 * k + 1 < length t
-  pub reaches : 0 < k → get_or t (2 * k) 0 * g ≤ get_or t (2 * k + 1) 0 * r
+pub record Reached (t : List (List ℕ)) (r g k : ℕ) : Type 0 where
+  pub within : k < length t
+  pub reaches : 0 < k → n_at t k * g ≤ d_at t k * r
 
 -- the blue of every pair of bytes, at 256 * v2 + v1
 pub record Cells (kind : Composition) (t : List ℕ) : Type 0 where

@@ -7,15 +7,15 @@ use crate::Composition;
 use crate::palette::Palette;
 
 // The place of r / g, from a place on that it reaches.
-fn rank_from(thresholds: &[u16], r: u64, g: u64, from: usize) -> usize
+// Kept: a walk and no partition_point: in a row of the 65,536 cells each place is walked past once, where every cell would be a search of its own.
+fn rank_from(thresholds: &[[u16; 2]], r: u64, g: u64, from: usize) -> usize
     requires { (r ≤ 263) × (g ≤ 263) × Reached thresholds.now r g from }
     ensures { Rank thresholds.now r g result }
 {
-    let last = thresholds.len() / 2 - 1;
+    let last = thresholds.len() - 1;
     for k in from..last {
-        let n = u64::from(thresholds[2 * k + 2]);
-        let d = u64::from(thresholds[2 * k + 3]);
-        if d * r < n * g {
+        let [n, d] = thresholds[k + 1];
+        if u64::from(d) * r < u64::from(n) * g {
             return k;
         }
     }
@@ -79,12 +79,12 @@ impl Palette {
         ensures { Cells self.now.kind cells.new }
     {
         let mut place: usize = 0;
-        for i in 0..65536 {
+        for (i, cell) in cells.iter_mut().enumerate() {
             let v1 = i % 256;
             let v2 = i / 256;
             let from = start(v1, place);
             place = self.place_from(self.tables.red[v1], self.tables.green[v2], from);
-            cells[i] = self.kind.blue_at(v1 as u8, v2 as u8, place);
+            *cell = self.kind.blue_at(v1 as u8, v2 as u8, place);
         }
     }
 }

@@ -35,11 +35,11 @@ fn cushioned(level: usize) -> u8
     requires { level ≤ 255 }
     ensures { result ≡ min (level + 3) 40 }
 {
-    let raised = level + 3;
-    if raised < 40 { raised as u8 } else { 40 }
+    (level + 3).min(40) as u8
 }
 
 // The counts of both bands' levels.
+// Kept: two slices and no &Bands: of a struct that is lent the proof lacks that each number is below 256, which the counts need.
 fn count_both(band1_data: &[u8], band2_data: &[u8]) -> [u32; 256]
     requires { (length band1_data.now ≤ 16777216) × (length band2_data.now ≤ 16777216) }
     ensures { result ≡ counts 256 (band1_data.now ++ band2_data.now) }

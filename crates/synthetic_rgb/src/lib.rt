@@ -4,7 +4,7 @@ ghost use Rattle.std.specs.Prelude.{◌≡◌, ◌*◌, ◌≤◌, length};
 ghost use Rattle.spec.specs.Answer.{number, reply_number, after};
 ghost use Rattle.spec.specs.Colour.{bytes_of, colours_of, create_synthetic_rgb_by_mode_and_strategy};
 
-use types::{AutoscaleStrategy, Reply, SyntheticRgbMode};
+use types::{AutoscaleStrategy, Refusal, SyntheticRgbMode};
 
 mod bands;
 mod blue;
@@ -16,6 +16,7 @@ use bands::Bands;
 use palette::Palette;
 
 // Which colours: the default ones, or the suppressed ones above a floor.
+// Kept: an enum of its own and no Option<u8>: its names say more than None and Some(f).
 #[derive(Clone, Copy, Debug, PartialEq, Eq)]
 pub enum Composition {
     Plain,
@@ -47,26 +48,26 @@ pub fn compose_by_mode_and_strategy(
 }
 
 // Composition as a call: the lengths are tested first.
-#[tactic(auto, unfolding(spec::specs::Colour::create_synthetic_rgb_by_mode_and_strategy, spec::specs::Answer::first_of, spec::specs::Answer::or_refused, spec::specs::Answer::answer, spec::specs::Answer::number, spec::specs::Answer::reply_number, spec::specs::Answer::after, spec::specs::Refusals::too_long, spec::specs::Refusals::unlike))]
+#[tactic(auto, unfolding(spec::specs::Colour::create_synthetic_rgb_by_mode_and_strategy, spec::specs::Answer::first_of, spec::specs::Answer::or_refused, spec::specs::Answer::answer, spec::specs::Answer::number, spec::specs::Answer::reply_number, types::specs::Replies::refusal_number, spec::specs::Answer::after, spec::specs::Refusals::too_long, spec::specs::Refusals::unlike))]
 pub fn create_synthetic_rgb_by_mode_and_strategy(
     mode: SyntheticRgbMode,
     strategy: AutoscaleStrategy,
     band1_data: &[u8],
     band2_data: &[u8],
     rgb_data: &mut [u8],
-) -> Reply
+) -> Result<(), Refusal>
     ensures result_value { reply_number result ≡ number (create_synthetic_rgb_by_mode_and_strategy mode strategy band1_data.now band2_data.now (length rgb_data.old)) }
     ensures rgb_data_after { rgb_data.new ≡ after (λ l. l) (create_synthetic_rgb_by_mode_and_strategy mode strategy band1_data.now band2_data.now (length rgb_data.old)) rgb_data.old }
 {
     if band2_data.len() != band1_data.len() {
-        return Reply::Refused(2);
+        return Err(Refusal::Lengths);
     }
     if 16777216 < band1_data.len() {
-        return Reply::Refused(2);
+        return Err(Refusal::Lengths);
     }
     if rgb_data.len() != 3 * band1_data.len() {
-        return Reply::Refused(2);
+        return Err(Refusal::Lengths);
     }
     compose_by_mode_and_strategy(mode, strategy, band1_data, band2_data, rgb_data);
-    Reply::Done
+    Ok(())
 }

@@ -27,6 +27,7 @@ fn paint<F: Fn(u8, u8) -> Rgb>(bands: &Bands, rgb_data: &mut [u8], colour: F)
     ensures { (rule : ℕ → ℕ → Rgb) → Keeps (F.post colour) rule → rgb_data.new ≡ bytes_of (zip_with rule bands.now.first.now bands.now.second.now) }
 {
     let second = bands.second;
+    // Kept: places 3 * i and no chunks: the contracts of as_chunks_mut and chunks_exact_mut say nothing of what the slice ends as.
     for (i, v1) in bands.first.iter().enumerate() {
         put(rgb_data, 3 * i, colour(*v1, second[i]));
     }

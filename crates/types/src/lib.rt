@@ -1,7 +1,12 @@
 #![tactic(auto)]
-// The enums of types.rs that the calls take, in its order, and the declared answers and records that calls and their parts give.
+// The enums of types.rs that the calls take, in its order, what refuses a call, and the records that calls and their parts give.
+mod codes; // codes.rt: the codes of the enums, and what names nothing
+mod refusal; // refusal.rt: the rows of the table of replies
 
-#[derive(Clone, Copy)]
+pub use codes::UnknownCode;
+pub use refusal::Refusal;
+
+#[derive(Clone, Copy, Debug, PartialEq, Eq)]
 pub enum PolarizationOperation {
     Sum,
     Diff,
@@ -10,7 +15,7 @@ pub enum PolarizationOperation {
     LogRatio,
 }
 
-#[derive(Clone, Copy)]
+#[derive(Clone, Copy, Debug, PartialEq, Eq)]
 pub enum AutoscaleStrategy {
     Standard,
     Robust,
@@ -21,7 +26,7 @@ pub enum AutoscaleStrategy {
     Default,
 }
 
-#[derive(Clone, Copy)]
+#[derive(Clone, Copy, Debug, PartialEq, Eq)]
 pub enum SyntheticRgbMode {
     Default,
     RgbRatio,
@@ -30,29 +35,22 @@ pub enum SyntheticRgbMode {
 }
 
 // "which band is co-pol".
-#[derive(Clone, Copy)]
+#[derive(Clone, Copy, Debug, PartialEq, Eq)]
 pub enum CoPol {
     Band1,
     Band2,
 }
 
 // What a picture is told beside its bands.
-#[derive(Clone, Copy)]
+#[derive(Clone, Copy, Debug, PartialEq, Eq)]
 pub struct PictureChoices {
     pub strategy: AutoscaleStrategy,
     pub mode: SyntheticRgbMode,
     pub copol: CoPol,
 }
 
-// Done, or a number of the table of replies.
-#[derive(Clone, Copy)]
-pub enum Reply {
-    Done,
-    Refused(u8),
-}
-
 // "The statistics are one record of a count and fifteen floats", with the Rust's field names; "carries the bins of p05 and p95"; "gains the row and column of the first valid maximum".
-#[derive(Clone, Copy)]
+#[derive(Clone, Copy, Debug, PartialEq)]
 pub struct HistogramStats {
     pub valid_count: usize,
     pub min_db: f64,
@@ -76,34 +74,8 @@ pub struct HistogramStats {
     pub max_col: usize,
 }
 
-#[derive(Clone, Copy)]
-pub enum StatisticsAnswer {
-    Statistics(HistogramStats),
-    Refused(u8),
-}
-
-// "A window answer is a window with its floats, or blank, or a refusal (1 to 4 only)."
-#[derive(Clone, Copy)]
-pub enum WindowAnswer {
-    Window {
-        low: f64,
-        high: f64,
-        range: f64,
-        gamma: f64,
-    },
-    Blank,
-    Refused(u8),
-}
-
-// The windows of a picture's two bands, each a window or blank, or the number that refuses the call.
-#[derive(Clone, Copy)]
-pub enum PictureWindows {
-    Windows(WindowAnswer, WindowAnswer),
-    Refused(u8),
-}
-
-// A window's floats, as painting takes them.
-#[derive(Clone, Copy)]
+// "A window answer is a window with its floats, or blank": its floats, as painting takes them. A blank one is no window.
+#[derive(Clone, Copy, Debug, PartialEq)]
 pub struct WindowFloats {
     pub low: f64,
     pub high: f64,
@@ -111,15 +83,22 @@ pub struct WindowFloats {
     pub gamma: f64,
 }
 
+// The windows of a picture's two bands.
+#[derive(Clone, Copy, Debug, PartialEq)]
+pub struct PictureWindows {
+    pub first: Option<WindowFloats>,
+    pub second: Option<WindowFloats>,
+}
+
 // The sides of a raster.
-#[derive(Clone, Copy)]
+#[derive(Clone, Copy, Debug, PartialEq, Eq)]
 pub struct Sides {
     pub rows: usize,
     pub cols: usize,
 }
 
 // The lengths lent to a picture: two grey outputs, colours, work.
-#[derive(Clone, Copy)]
+#[derive(Clone, Copy, Debug, PartialEq, Eq)]
 pub struct Lent {
     pub grey1: usize,
     pub grey2: usize,
@@ -128,14 +107,14 @@ pub struct Lent {
 }
 
 // A place in a raster.
-#[derive(Clone, Copy)]
+#[derive(Clone, Copy, Debug, PartialEq, Eq)]
 pub struct Place {
     pub row: usize,
     pub col: usize,
 }
 
 // What pass one knows of the values so far.
-#[derive(Clone, Copy)]
+#[derive(Clone, Copy, Debug, PartialEq)]
 pub struct Moments {
     pub count: u32,
     pub min_db: f64,
@@ -145,7 +124,7 @@ pub struct Moments {
 }
 
 // A bin, its count and the target's rank within it.
-#[derive(Clone, Copy)]
+#[derive(Clone, Copy, Debug, PartialEq)]
 pub struct BinRank {
     pub bin: usize,
     pub size: u32,
@@ -153,7 +132,7 @@ pub struct BinRank {
 }
 
 // A value, "its bin and its rank within the bin".
-#[derive(Clone, Copy)]
+#[derive(Clone, Copy, Debug, PartialEq)]
 pub struct Percentile {
     pub value: f64,
     pub bin: usize,
@@ -161,7 +140,7 @@ pub struct Percentile {
 }
 
 // What a strategy decides: the Rust's (low_clip, high_clip, gamma).
-#[derive(Clone, Copy)]
+#[derive(Clone, Copy, Debug, PartialEq)]
 pub struct Clip {
     pub low: f64,
     pub high: f64,
@@ -169,7 +148,7 @@ pub struct Clip {
 }
 
 // Where a row or a column lies among the tiles: its place, two tiles, and the second one's weight.
-#[derive(Clone, Copy)]
+#[derive(Clone, Copy, Debug, PartialEq)]
 pub struct TilePosition {
     pub position: f64,
     pub first: usize,
@@ -178,7 +157,7 @@ pub struct TilePosition {
 }
 
 // The colour bytes of one pixel.
-#[derive(Clone, Copy)]
+#[derive(Clone, Copy, Debug, PartialEq, Eq)]
 pub struct Rgb {
     pub r: u8,
     pub g: u8,

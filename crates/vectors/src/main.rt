@@ -26,6 +26,7 @@ fn replay(rt: &HostRuntime, name: &str, path: &str) -> io::Result<()> {
     let mut differ = 0u64;
     for record in Records(&bytes) {
         let same = match Record::parse(record) {
+            // Kept: no `is_some_and`, since this arm hands an error on.
             Some(record) => agrees(rt.alloc(), record)?,
             None => false,
         };

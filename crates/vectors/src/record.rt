@@ -7,7 +7,7 @@ use std::marker::PhantomData;
 use types::Sides;
 
 // What a record has the results of: Clahe's parts, or a step on floats.
-#[derive(Clone, Copy)]
+#[derive(Clone, Copy, Debug, PartialEq, Eq)]
 pub(crate) enum Op {
     TileSums,
     BandSums,
@@ -15,7 +15,7 @@ pub(crate) enum Op {
     Step(Step),
 }
 
-#[derive(Clone, Copy)]
+#[derive(Clone, Copy, Debug, PartialEq, Eq)]
 pub(crate) enum Step {
     Sqrt,
     RoundF64,
@@ -81,6 +81,7 @@ pub(crate) trait Number: Copy {
         ensures { IfSome result (λ r. length r.1.now < length bytes.now) };
 }
 
+// Kept: a body for each width. No macro of the repository's own may write an impl.
 impl Number for u8 {
     const WIDTH: usize = 1;
 

@@ -17,6 +17,7 @@ fn is_floor(x: f64, found: f64) -> bool {
     x < 0.0 || x.is_nan() || x.as_u64() == found.as_u64()
 }
 
+// Kept: apart from is_rounded. One function told both ways would take a clause of where the second may be called, and each of its two calls a closure with that clause.
 // Both ways to truncate, where the second one may be asked.
 fn is_truncated(x: f64, n: u64) -> bool {
     if x.as_u64() != n {
@@ -47,6 +48,7 @@ fn signed_bits(x: f64) -> u64 {
     x.as_u64().min(0x7fff_ffff_ffff_ffff)
 }
 
+// Kept: `IsAlwaysCallable` in the three functions below is the language's own clause for a closure that may be called on anything.
 // Whether a test holds of each element of a list and its result, in the record's last list.
 fn each<X: Number, Y: Number, F: Fn(X, Y) -> bool>(lists: &[u8], test: F) -> Option<bool>
     requires { F.IsAlwaysCallable test }

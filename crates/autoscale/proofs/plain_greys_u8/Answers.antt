@@ -1,27 +1,22 @@
 -- `autoscale::plain_greys_u8` meets its contract. Assumes nothing.
-use mathlib.Core.Path.{◌≡◌, sym, ap, ◌∙◌}
-use native.Mathlib.Omega.{arith}
+use mathlib.Core.Path.{sym, ap, ◌∙◌}
 use borrow.Author.Rules.{rules}
-use lib.ListN.{length, replicate}
+use lib.ListN.{length}
 use Rattle.spec.specs.Pixels.{pixels}
 use Rattle.spec.specs.Gamma.{U8}
-use Rattle.raster.proofs.Bands.{pixels-length}
-use Rattle.autoscale.proofs.Painted.{plain-window, left_stretched}
 use Rattle.spec.specs.Stretch.{stretch}
+use Rattle.stretch.proofs.Loops.{of_levels}
 use Rattle.stretch.proofs.Calls.{stretch_by}
+use Rattle.autoscale.proofs.Painted.{plain-window, left_stretched}
 use Rattle.autoscale.proofs.plain_greys_u8.Goals as goal
 
-pub returns-in_default : goal.returns-in_default
-returns-in_default c =
+pub returns-in-None : goal.returns-in-None
+returns-in-None c =
     let a = c.args in
-    let e = pixels-length a.valid_mask.now a.db.now (omega arith) in
-    let black : c.fill.new.self ≡ replicate (length a.out.now) 0 = search rules in
-    black ∙ left_stretched U8 a.window (pixels a.valid_mask.now a.db.now) (length a.out.now) c.in_default.not-Window (omega arith)
+    left_stretched U8 a.window c.in-None.is a.band.now.valid_mask.now a.band.now.db.now (length a.out.now) a.band.now.alike c.requires.fact_1 c.fill.new.self (search rules)
 
-pub returns : goal.returns
-returns c =
-    let a = c.args in
-    let w = c.in-Window in
-    let plain = plain-window a.window w.low w.high w.range w.gamma w.is U8 (pixels a.valid_mask.now a.db.now) in
-    let u = c.paint_u8-ends.ensures in
-    stretch_by _ _ _ _ u.lo_value.0 u.lo_value.1 c.stretch_bytes.ensures ∙ ap stretch (u.out_after ∙ sym plain)
+pub returns-in-Some : goal.returns-in-Some
+returns-in-Some c =
+    let plain = plain-window c.args.window c.in-Some.window c.in-Some.is U8 (pixels c.args.band.now.valid_mask.now c.args.band.now.db.now) in
+    let e = of_levels _ c.of.ensures in
+    stretch_by _ _ _ _ e.0 e.1 c.stretch_bytes.ensures ∙ ap stretch (c.paint_u8.ensures ∙ sym plain)

@@ -3,5 +3,5 @@ use native.Mathlib.Omega.{arith}
 use Rattle.colour_tables.proofs.Places.{thresholds_right}
 use Rattle.colour_tables.proofs.blue_above_thresholds.Goals as goal
 
-pub returns : goal.returns
-returns c = thresholds_right 918 8 66 _ (omega arith) (omega arith) tt
+pub returns-clause-right : goal.returns-clause-right
+returns-clause-right c = thresholds_right 918 8 66 _ (omega arith) (omega arith) tt

@@ -1,21 +1,33 @@
--- `pipeline::autoscale_db_image_to_u16` meets its contract: refused by number, or the greys. Assumes nothing.
-use mathlib.Core.List.{List, []}
-use Prim.Native.Nat.{ℕ}
-use Rattle.types.specs.declared.WindowAnswer.{WindowAnswer}
+-- `pipeline::autoscale_db_image_to_u16` meets its contract: refused by number, or the values. Assumes nothing.
+use mathlib.Core.Path.{refl}
 use Rattle.spec.specs.Answer.{reply_number}
-use Rattle.spec.specs.Grey.{values, autoscale_db_image_to_u16}
-use Rattle.spec.specs.Pixels.{pixels}
-use Rattle.spec.specs.Gamma.{U16}
+use Rattle.spec.specs.Grey.{grey_tests, autoscale_db_image_to_u16}
+use Rattle.lists.proofs.Replies.{when_err, passed_on, refusal-not_zero}
 use Rattle.autoscale.specs.Painted.{opens}
-use Rattle.pipeline.proofs.Greys.{grey16_refused, grey16_asks, grey16_opens, grey16_done}
+use Rattle.raster.specs.declared.band.Raster.{Raster}
+use Rattle.pipeline.proofs.Accepted.{ready_in}
+use Rattle.pipeline.proofs.Greys.{values_by, first_refused, later_refused, all_done, grey16_err, grey16_ok, grey16_opens}
 use Rattle.pipeline.proofs.autoscale_db_image_to_u16.Goals as goal
 
-pub returns-in-Refused : goal.returns-in-Refused
-unfolding autoscale_db_image_to_u16 reply_number
-returns-in-Refused c =
+pub returns-in_err-raster : goal.returns-in_err-raster
+unfolding autoscale_db_image_to_u16 grey_tests reply_number
+returns-in_err-raster c =
     let a = c.args in
-    let g : WindowAnswer → List ℕ = λ v. values U16 a.strategy a.rows a.cols (pixels a.valid_mask.now a.db.now) v in let r = grey16_refused a.strategy a.rows a.cols a.valid_mask.now a.db.now a.out.now a.work.now g _ c.grey_window_u16-window.ensures _ c.in-Refused.is in record {
-      reply = r.0;
+    let e = c.in_err-raster in
+    let r = first_refused a.strategy _ _ _ _ _ (values_by a.strategy) _ _ (when_err Raster _ _ e.ensures.reply) (refusal-not_zero _) in record {
+      reply = rw (passed_on c.from_residual.result e.field-0.0 c.from_residual.ensures.1) r.0;
+      greys = r.1.0;
+      work = r.1.1;
+    }
+
+pub returns-in_err-window : goal.returns-in_err-window
+unfolding autoscale_db_image_to_u16 grey_tests reply_number
+returns-in_err-window c =
+    let a = c.args in
+    let raster = c.in_ok-raster in
+    let e = c.in_err-window in
+    let r = later_refused a.strategy _ _ _ _ _ (values_by a.strategy) _ raster.ensures.reply _ (grey16_err _ _ _ _ raster.raster raster.ensures.raster.0 _ e.ensures _ refl) in record {
+      reply = rw (passed_on c.from_residual-in_err-window.result e.field-0.0 c.from_residual-in_err-window.ensures.1) r.0;
       greys = r.1.0;
       work = r.1.1;
     }
@@ -24,16 +36,19 @@ returns-in-Refused c =
 pub values_u16-requires : goal.values_u16-requires
 unfolding opens
 values_u16-requires c =
-    let a = c.args in record {
-      fact_1 = grey16_asks a.strategy a.rows a.cols a.valid_mask.now a.db.now a.out.now a.work.now (λ v. []) _ c.grey_window_u16-window.ensures c.in_default.not-Refused;
-      fact_2 = search (grey16_opens a.strategy a.rows a.cols a.valid_mask.now a.db.now a.out.now a.work.now (λ v. []) _ c.grey_window_u16-window.ensures c.in_default.not-Refused);
+    let h = c.in_ok-raster.ensures.raster in record {
+      fact_1 = ready_in _ _ _ _ _ h.0.2 h.1;
+      fact_2 = search (grey16_opens _ _ _ _ c.in_ok-raster.raster h.0 _ c.in_ok-window.ensures _ refl);
     }
 
 pub returns : goal.returns
-unfolding autoscale_db_image_to_u16 reply_number
+unfolding autoscale_db_image_to_u16 grey_tests reply_number
 returns c =
     let a = c.args in
-    let g : WindowAnswer → List ℕ = λ v. values U16 a.strategy a.rows a.cols (pixels a.valid_mask.now a.db.now) v in let r = grey16_done a.strategy a.rows a.cols a.valid_mask.now a.db.now a.out.now a.work.now g _ c.grey_window_u16-window.ensures c.in_default.not-Refused _ _ c.values_u16.ensures.out_after c.values_u16.ensures.kept in record {
+    let raster = c.in_ok-raster in
+    let h = raster.ensures.raster.0 in
+    let window = grey16_ok _ _ _ _ raster.raster h _ c.in_ok-window.ensures _ refl in
+    let r = all_done a.strategy _ _ _ _ _ (values_by a.strategy) _ raster.ensures.reply _ window raster.raster h _ _ c.values_u16.ensures.out_after c.values_u16.ensures.kept in record {
       reply = r.0;
       greys = r.1.0;
       work = r.1.1;

@@ -7,7 +7,7 @@ pub returns-in_default : goal.returns-in_default
 returns-in_default c = stats-refused _ _ (sym c.strategy_pass.ensures ∙ c.in_default.is)
 
 pub summary-requires : goal.summary-requires
-summary-requires c = (c.requires.0, c.requires.1, pass_count _ _ _ (sym c.strategy_pass.ensures ∙ c.in-Some.is))
+summary-requires c = pass_count _ _ _ (sym c.strategy_pass.ensures ∙ c.in-Some.is)
 
 pub returns : goal.returns
 returns c = stats-passed _ _ _ _ (sym c.strategy_pass.ensures ∙ c.in-Some.is) c.summary.ensures

@@ -1,10 +1,13 @@
 -- `autoscale::band::band_window` meets its contract. Assumes nothing.
 use mathlib.Core.Path.{sym, ◌∙◌}
+use Rattle.lists.proofs.Replies.{passed_on}
 use Rattle.autoscale.proofs.Windows.{window-refused, window-read}
 use Rattle.autoscale.proofs.band.band_window.Goals as goal
 
-pub returns-in_default : goal.returns-in_default
-returns-in_default c = window-refused _ _ _ (sym c.band_stats.ensures ∙ c.in_default.is)
+pub returns-in_err-stats : goal.returns-in_err-stats
+returns-in_err-stats c =
+    let e = c.in_err-stats in
+    rw (passed_on c.from_residual.result e.field-0.0 c.from_residual.ensures.1) (window-refused _ _ _ (sym e.ensures))
 
 pub returns : goal.returns
-returns c = window-read _ _ _ (sym c.band_stats.ensures ∙ c.in-Statistics.is) _ c.window_of.ensures
+returns c = window-read _ _ _ (sym c.band_stats.ensures ∙ c.in_ok-stats.was) _ c.window_of.ensures

@@ -11,17 +11,17 @@ loop-i-init c = (omega arith, omega arith, refl)
 
 pub valid_db-v-requires : goal.valid_db-v-requires
 valid_db-v-requires c =
-    (omega arith, c.requires.fact_3 c.loop-i.i (omega arith))
+    (omega arith, c.requires.fact_2 c.loop-i.i (omega arith))
 
 pub loop-i-preserved : goal.loop-i-preserved
 loop-i-preserved c =
     let w = c.args.window in
     let l = c.loop-i in
     let g = normalized w.low w.high w.range in
-    next g nan c.args.db.now l.normal l.i c.normalized.result (omega arith) (c.normalized.ensures ∙ ap g c.valid_db-v.ensures) l.invariant
+    next g nan c.args.band.now.db.now l.normal l.i c.normalized.result (omega arith) (c.normalized.ensures ∙ ap g c.valid_db-v.ensures) l.invariant
 
 pub returns : goal.returns
 returns c =
     let w = c.args.window in
     let l = c.loop-i in
-    finish (normalized w.low w.high w.range) nan c.args.db.now l.normal l.i l.invariant (omega arith)
+    finish (normalized w.low w.high w.range) nan c.args.band.now.db.now l.normal l.i l.invariant (omega arith)

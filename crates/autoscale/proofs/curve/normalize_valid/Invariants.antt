@@ -5,4 +5,4 @@ use Rattle.lists.proofs.Rows.{Done}
 use Rattle.autoscale.proofs.curve.normalize_valid.Given as goal
 
 abbrev pub invariant-loop-i : goal.invariant-loop-i
-invariant-loop-i l = Done (normalized l.window.low l.window.high l.window.range) nan l.db l.normal l.i
+invariant-loop-i l = Done (normalized l.window.low l.window.high l.window.range) nan l.band.db.now l.normal l.i

@@ -6,7 +6,7 @@ use Rattle.autoscale.specs.Painted.{CurvePainted}
 use Rattle.autoscale.proofs.curve.paint_blocks_by.Given as goal
 
 abbrev pub invariant-loop-at : goal.invariant-loop-at
-invariant-loop-at l = CurvePainted l.curve.thresholds l.window (take l.at (pixels l.valid_mask l.db)) (take l.at l.out)
+invariant-loop-at l = CurvePainted l.curve.thresholds.now l.window (take l.at (pixels l.band.valid_mask.now l.band.db.now)) (take l.at l.out)
 
 abbrev pub decreases-loop-at : goal.decreases-loop-at
 decreases-loop-at l = length l.initial.out - l.at

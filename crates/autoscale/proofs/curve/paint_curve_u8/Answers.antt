@@ -11,4 +11,4 @@ pub returns : goal.returns
 returns c =
     let a = c.args in
     c.paint_blocks_by.ensures (over (number a.gamma)) (under (number a.gamma)) c.new-curve.ensures
-    ∙ curve-painted a.window.low a.window.high a.window.range (pixels a.valid_mask.now a.db.now) (number a.gamma) (number-lt a.gamma)
+    ∙ curve-painted a.window.low a.window.high a.window.range (pixels a.band.now.valid_mask.now a.band.now.db.now) (number a.gamma) (number-lt a.gamma)

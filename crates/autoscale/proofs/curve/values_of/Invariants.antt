@@ -4,4 +4,4 @@ use Rattle.autoscale.specs.Painted.{CurveValues}
 use Rattle.autoscale.proofs.curve.values_of.Given as goal
 
 abbrev pub invariant-loop-i : goal.invariant-loop-i
-invariant-loop-i l = CurveValues l.curve.thresholds (take l.i l.normal) (take l.i l.out)
+invariant-loop-i l = CurveValues l.curve.thresholds.now (take l.i l.normal) (take l.i l.out)

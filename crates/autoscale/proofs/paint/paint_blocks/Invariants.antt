@@ -8,7 +8,7 @@ use Rattle.autoscale.specs.Painted.{straight}
 use Rattle.autoscale.proofs.paint.paint_blocks.Given as goal
 
 abbrev pub invariant-loop-at : goal.invariant-loop-at
-invariant-loop-at g l = take l.at l.out ≡ map (straight g.D.Depth.of g.D.Depth.depth l.window) (take l.at (pixels l.valid_mask l.db))
+invariant-loop-at g l = take l.at l.out ≡ map (straight g.D.Depth.of g.D.Depth.depth l.window) (take l.at (pixels l.band.valid_mask.now l.band.db.now))
 
 abbrev pub decreases-loop-at : goal.decreases-loop-at
 decreases-loop-at g l = length l.initial.out - l.at

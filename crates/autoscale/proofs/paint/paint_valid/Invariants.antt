@@ -7,4 +7,4 @@ use Rattle.autoscale.specs.Painted.{straight}
 use Rattle.autoscale.proofs.paint.paint_valid.Given as goal
 
 abbrev pub invariant-loop-i : goal.invariant-loop-i
-invariant-loop-i g l = take l.i l.out ≡ map (straight g.D.Depth.of g.D.Depth.depth l.window) (take l.i (pixels l.valid_mask l.db))
+invariant-loop-i g l = take l.i l.out ≡ map (straight g.D.Depth.of g.D.Depth.depth l.window) (take l.i (pixels l.band.valid_mask.now l.band.db.now))

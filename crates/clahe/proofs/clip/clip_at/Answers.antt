@@ -17,17 +17,15 @@ each_fits limit over hs each l s o e =
 
 pub overflow_cast-each : goal.overflow_cast-each
 overflow_cast-each c =
-    omega (arith, each_fits c.args.limit c.excess-over.result c.args.hist.now c.each_of-each.result c.requires.2 c.requires.1 c.excess-over.ensures c.each_of-each.ensures)
+    omega (arith, each_fits c.args.limit c.excess-over.result c.args.hist.now c.each_of-each.result c.requires.1 c.requires.0 c.excess-over.ensures c.each_of-each.ensures)
 
 pub share-requires : goal.share-requires
 share-requires c =
     let hs = c.args.hist.now in
     let limit = c.args.limit in
-    let fits = each_fits limit c.excess-over.result hs c.each_of-each.result c.requires.2 c.requires.1 c.excess-over.ensures c.each_of-each.ensures in (
-      omega (arith, c.requires.0, c.clip_bins.auto.hist),
-      λ k. subst (λ (h : List ℕ). get_or h k 0 + c.each_of-each.result + 1 < 2 ^ 32) (sym c.clip_bins.ensures)
-          (share_fits limit hs c.each_of-each.result c.requires.1 fits k),
-    )
+    let fits = each_fits limit c.excess-over.result hs c.each_of-each.result c.requires.1 c.requires.0 c.excess-over.ensures c.each_of-each.ensures in
+    λ k. subst (λ (h : List ℕ). get_or h k 0 + c.each_of-each.result + 1 < 2 ^ 32) (sym c.clip_bins.ensures)
+    (share_fits limit hs c.each_of-each.result c.requires.0 fits k)
 
 pub returns : goal.returns
 unfolding clip_at

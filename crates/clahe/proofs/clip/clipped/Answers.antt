@@ -10,8 +10,8 @@ chosen : (limit : Float) (h : ℕ) (t : Bool) → lt limit (of_count h) ≡ t �
 unfolding clipped
 chosen limit h t e = sym (ap (λ (t : Bool). cond t (to_unsigned 32 limit) h) e)
 
-pub returns-then-h-limit : goal.returns-then-h-limit
-returns-then-h-limit c = c.f64_as_u32.ensures ∙ chosen _ _ _ c.if-h-limit.true
+pub returns-then-from-limit : goal.returns-then-from-limit
+returns-then-from-limit c = c.f64_as_u32.ensures ∙ chosen _ _ _ (rw c.from.ensures at c.if-from-limit.true)
 
-pub returns-else-h-limit : goal.returns-else-h-limit
-returns-else-h-limit c = chosen _ _ _ c.if-h-limit.false
+pub returns-else-from-limit : goal.returns-else-from-limit
+returns-else-from-limit c = chosen _ _ _ (rw c.from.ensures at c.if-from-limit.false)

@@ -1,5 +1,5 @@
 -- `clahe::columns::column_positions` meets its contract. The invariant: the positions of the columns before c are written. Assumes nothing.
-use Rattle.std.proofs.Common.{◌≡◌, length, refl, arith, length-set}
+use Rattle.std.proofs.Common.{◌≡◌, length, arith, length-set}
 use Rattle.clahe.specs.Paint.{column_of}
 use Rattle.clahe.proofs.Cells.{kept_or_stored}
 use Rattle.clahe.proofs.Positions.{none, column_made, all_columns}
@@ -14,7 +14,7 @@ loop-c-preserved c =
       simp length-set (omega arith),
       simp length-set (omega arith),
       kept_or_stored (λ j x. x ≡ column_of n j) none c.loop-c.columns c.loop-c.c _ (omega arith) c.loop-c.invariant.2
-          (column_made n c.loop-c.c _ c.tile_position-p.result _ c.tile_side-side.ensures c.tile_position-p.ensures refl),
+          (column_made n c.loop-c.c _ c.tile_position-p.result _ c.tile_side-side.ensures c.tile_position-p.ensures c.from.ensures),
     )
 
 pub returns : goal.returns

@@ -10,11 +10,11 @@ pub loop-c-init : goal.loop-c-init
 loop-c-init g c = (omega arith, omega arith, λ k h. absurd (omega arith))
 
 pub bounds-columns-c : goal.bounds-columns-c
-bounds-columns-c g c = let n = ap length c.requires.columns in omega (arith, n, columns-length (length c.args.db.now))
+bounds-columns-c g c = let n = ap length c.requires.columns in omega (arith, n, columns-length (length c.args.band.now.db.now))
 
 pub shade-requires : goal.shade-requires
 shade-requires g c =
-    (c.requires.work_len.0, c.requires.work_len.1, (column_among (length c.args.db.now) c.loop-c.c none c.args.columns.now c.requires.columns (omega arith)).1)
+    (c.requires.among, (column_among (length c.args.band.now.db.now) c.loop-c.c none c.args.columns.now c.requires.columns (omega arith)).1)
 
 pub loop-c-preserved : goal.loop-c-preserved
 loop-c-preserved g c =
@@ -25,17 +25,17 @@ loop-c-preserved g c =
       | then-valid_mask-c-eq0 w ↦ rw w.out-is (
         omega arith,
         simp length-set (omega arith),
-        shaded_off full a.work.now a.y of a.window a.valid_mask.now a.db.now c.loop-c.c c.loop-c.out (omega arith) c.loop-c.invariant.2 _ w.if-valid_mask-c-eq0.true w.black.ensures,
+        shaded_off full a.work.now a.y of a.window a.band.now c.loop-c.c c.loop-c.out (omega arith) c.loop-c.invariant.2 _ w.if-valid_mask-c-eq0.true w.black.ensures,
       )
       | else-valid_mask-c-eq0 w ↦ rw w.out-is (
         omega arith,
         simp length-set (omega arith),
-        shaded_on full a.work.now a.y of a.window a.valid_mask.now a.db.now c.loop-c.c c.loop-c.out (omega arith) c.loop-c.invariant.2 _ _ _
-            w.if-valid_mask-c-eq0.false (column_among (length a.db.now) c.loop-c.c none a.columns.now c.requires.columns (omega arith)).0 w.normalized-u.ensures w.shade.ensures,
+        shaded_on full a.work.now a.y of a.window a.band.now c.loop-c.c c.loop-c.out (omega arith) c.loop-c.invariant.2 _ _ _
+            w.if-valid_mask-c-eq0.false (column_among (length a.band.now.db.now) c.loop-c.c none a.columns.now c.requires.columns (omega arith)).0 w.normalized-u.ensures w.shade.ensures,
       )
     ]
 
 pub returns : goal.returns
 returns g c =
     let a = c.args in
-    shaded_all (full_of g.D.Depth.depth) a.work.now a.y g.D.Depth.of a.window a.valid_mask.now a.db.now c.loop-c.c c.loop-c.out (omega arith) (omega arith) c.loop-c.invariant.2
+    shaded_all (full_of g.D.Depth.depth) a.work.now a.y g.D.Depth.of a.window a.band.now c.loop-c.c c.loop-c.out (omega arith) (omega arith) c.loop-c.invariant.2

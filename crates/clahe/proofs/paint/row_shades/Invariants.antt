@@ -6,4 +6,4 @@ use Rattle.clahe.proofs.paint.row_shades.Given as goal
 
 abbrev pub invariant-loop-c : goal.invariant-loop-c
 invariant-loop-c g l =
-    (l.c ≤ length l.db) × (length l.out ≡ length l.db) × Shaded (full_of g.D.Depth.depth) l.work l.y g.D.Depth.of l.window l.valid_mask l.db l.c l.out
+    (l.c ≤ length l.band.db.now) × (length l.out ≡ length l.band.db.now) × Shaded (full_of g.D.Depth.depth) l.work l.y g.D.Depth.of l.window l.band l.c l.out

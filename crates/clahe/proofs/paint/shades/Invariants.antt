@@ -6,5 +6,5 @@ use Rattle.clahe.proofs.paint.shades.Given as goal
 
 abbrev pub invariant-loop-r : goal.invariant-loop-r
 invariant-loop-r g l =
-    (l.r ≤ l.sides.rows) × (length l.out ≡ l.sides.rows * l.sides.cols)
-    × Above g.D.Depth.of (full_of g.D.Depth.depth) l.work l.sides.rows l.sides.cols l.window l.valid_mask l.db l.r l.out
+    (l.r ≤ l.raster.sides.rows) × (length l.out ≡ l.raster.sides.rows * l.raster.sides.cols)
+    × Above l.raster g.D.Depth.of (full_of g.D.Depth.depth) l.work l.window l.r l.out

@@ -10,4 +10,4 @@ sum-requires-clause-fits c = let short : length c.args.hist.now < 257 = omega ar
 pub returns : goal.returns
 returns c =
     let hs = c.args.hist.now in
-    let e : c.sum.result ≡ sum hs = search rules in (e ∙ sum_is hs, omega (arith, e, sum_most hs c.type_inv.hist))
+    let e : c.sum.result ≡ sum hs = search rules in (e ∙ sum_is hs, omega (arith, e, sum_most hs c.fits-hist))

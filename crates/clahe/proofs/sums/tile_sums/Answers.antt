@@ -1,10 +1,11 @@
 -- `clahe::sums::tile_sums` meets its contract: counted, clipped and summed is what `tile_table` says. Assumes nothing.
-use Rattle.std.proofs.Common.{◌≡◌, ℕ, ◌*◌, ◌/◌, ◌%◌, ◌^◌, ◌<◌, ◌≤◌, T, List, map, sym, refl, ap, ◌∙◌, subst, arith}
+use Rattle.std.proofs.Common.{◌≡◌, ℕ, ◌*◌, ◌/◌, ◌%◌, ◌^◌, ◌<◌, ◌≤◌, T, List, map, sym, ap, ◌∙◌, subst, arith}
 use lib.Ieee.{Float, le}
+use Rattle.raster.specs.declared.band.Raster.{Raster}
 use Rattle.spec.specs.Lists.{sum_of, places}
 use Rattle.spec.specs.Floats.{zero64}
 use Rattle.spec.specs.Clahe.{tile_size, threshold, sum_at}
-use Rattle.clahe.specs.Band.{band, Raster}
+use Rattle.clahe.specs.Band.{normal_pixels}
 use Rattle.clahe.specs.Limits.{all_in}
 use Rattle.clahe.proofs.Shares.{table_of}
 use Rattle.clahe.proofs.Bounds.{threshold_low}
@@ -12,35 +13,36 @@ use Rattle.clahe.proofs.Tiling.{area_most, tile_sum-most, no_counts}
 use Rattle.clahe.proofs.sums.tile_sums.Goals as goal
 
 -- the tile's area, which is no more than 4,096 by 4,096
-area : {rows cols : ℕ} {ms : List ℕ} {ds : List Float} (k height width : ℕ) → Raster rows cols ms ds → height ≡ tile_size rows (k / 8) → width ≡ tile_size cols (k % 8)
-    → (height * width ≡ all_in rows cols k) × (all_in rows cols k ≤ 16777216)
-area {rows} {cols} k height width s a b = (cc, area_most rows cols (k / 8) (k % 8) s.tall s.wide)
+area : (s : Raster) (k height width : ℕ) → height ≡ tile_size s.sides.rows (k / 8) → width ≡ tile_size s.sides.cols (k % 8)
+    → (height * width ≡ all_in s.sides.rows s.sides.cols k) × (all_in s.sides.rows s.sides.cols k ≤ 16777216)
+area s k height width a b = (cc, area_most s.sides.rows s.sides.cols (k / 8) (k % 8) s.small.0 s.small.1)
 
 pub count_tile-requires : goal.count_tile-requires
 count_tile-requires c = record {
-  raster = (c.requires.0, omega arith, omega arith);
-  hist_len = (refl, no_counts 256);
+  tile = (omega arith, omega arith);
+  empty = no_counts 256;
 }
 
 pub overflow_mul-tile_size : goal.overflow_mul-tile_size
-overflow_mul-tile_size c = omega (arith, area c.args.k _ _ c.requires.0 c.tile_size.ensures c.tile_size-2.ensures)
+overflow_mul-tile_size c = omega (arith, area c.args.raster.now c.args.k _ _ c.tile_size.ensures c.tile_size-2.ensures)
 
 pub threshold-limit-requires : goal.threshold-limit-requires
-threshold-limit-requires c = omega (arith, area c.args.k _ _ c.requires.0 c.tile_size.ensures c.tile_size-2.ensures)
+threshold-limit-requires c = omega (arith, area c.args.raster.now c.args.k _ _ c.tile_size.ensures c.tile_size-2.ensures)
 
 pub clip_at-requires : goal.clip_at-requires
 clip_at-requires c =
     let a = c.args in
-    let px = band a.window a.valid_mask.now a.db.now in (
-      c.count_tile.auto.hist,
-      subst (λ (h : List ℕ). sum_of h < 2 ^ 31) (sym c.count_tile.ensures) (omega (arith, tile_sum-most a.sides.rows a.sides.cols px (a.k / 8) (a.k % 8) c.requires.0.tall c.requires.0.wide)),
+    let s = a.raster.now in
+    let px = normal_pixels a.window s.band in (
+      subst (λ (h : List ℕ). sum_of h < 2 ^ 31) (sym c.count_tile.ensures) (omega (arith, tile_sum-most s.sides.rows s.sides.cols px (a.k / 8) (a.k % 8) s.small.0 s.small.1)),
       subst (λ (x : Float). T (le zero64 x)) (sym c.threshold-limit.ensures) (threshold_low _),
     )
 
 pub returns : goal.returns
 returns c =
     let a = c.args in
-    let px = band a.window a.valid_mask.now a.db.now in
+    let s = a.raster.now in
+    let px = normal_pixels a.window s.band in
     c.write_sums.ensures
     ∙ ap (λ (h : List ℕ). map (sum_at h) (places 256))
-    (table_of a.sides.rows a.sides.cols px a.k c.threshold-limit.result _ _ (c.threshold-limit.ensures ∙ ap threshold (area c.args.k _ _ c.requires.0 c.tile_size.ensures c.tile_size-2.ensures).0) c.count_tile.ensures c.clip_at.ensures)
+    (table_of s.sides.rows s.sides.cols px a.k c.threshold-limit.result _ _ (c.threshold-limit.ensures ∙ ap threshold (area c.args.raster.now c.args.k _ _ c.tile_size.ensures c.tile_size-2.ensures).0) c.count_tile.ensures c.clip_at.ensures)

@@ -2,10 +2,10 @@
 use Rattle.std.proofs.Common.{◌≡◌, ℕ, ◌+◌, ◌*◌, ◌<◌, ◌≤◌, length, get_or}
 use lib.Ieee.{nan}
 use Rattle.spec.specs.Clahe.{sum_at, tile_table}
-use Rattle.clahe.specs.Band.{band}
+use Rattle.clahe.specs.Band.{normal_pixels}
 use Rattle.clahe.proofs.sums.write_tables.Given as goal
 
 abbrev pub invariant-loop-k : goal.invariant-loop-k
 invariant-loop-k l =
     (l.k ≤ 64) × (length l.work ≡ 16384)
-    × ((j b : ℕ) → j < l.k → b < 256 → get_or l.work (j * 256 + b) nan ≡ sum_at (tile_table l.sides.rows l.sides.cols (band l.window l.valid_mask l.db) j) b)
+    × ((j b : ℕ) → j < l.k → b < 256 → get_or l.work (j * 256 + b) nan ≡ sum_at (tile_table l.raster.sides.rows l.raster.sides.cols (normal_pixels l.window l.raster.band) j) b)

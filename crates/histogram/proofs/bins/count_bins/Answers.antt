@@ -8,14 +8,13 @@ use Rattle.histogram.proofs.bins.count_bins.Goals as goal
 
 pub returns-then-is_flat : goal.returns-then-is_flat
 returns-then-is_flat c =
-    flat_filled _ _ (sym c.is_flat.ensures ∙ c.if-is_flat.true) _ c.requires.2 _ c.requires.3
+    flat_filled _ _ (sym c.is_flat.ensures ∙ c.if-is_flat.true) _ c.requires.0 _ c.requires.1
 
 pub fill_bins-requires : goal.fill_bins-requires
 fill_bins-requires c =
-    let room = room_of c.args.hist.now (length c.args.db.now) c.requires.2 c.requires.1 in
-    (c.requires.0, room.0, room.1)
+    room_of c.args.hist.now (length c.args.band.now.pixels.db.now) c.requires.0 c.args.band.now.short
 
 pub returns : goal.returns
 unfolding span_of
 returns c =
-    spread_filled _ _ (sym c.is_flat.ensures ∙ c.if-is_flat.false) _ _ c.requires.2 c.fill_bins.ensures
+    spread_filled _ _ (sym c.is_flat.ensures ∙ c.if-is_flat.false) _ _ c.requires.0 c.fill_bins.ensures

@@ -19,12 +19,12 @@ loop-i-preserved c =
       | then-valid_mask-i-ne0 w ↦ rw w.hist-is (
         simp length-set (omega arith),
         λ k. omega (arith, added-most h w.bin_of.result (λ j. get_or a.hist.now j 0 + i) c.loop-i.invariant.1 k),
-        c.loop-i.invariant.2 ∙ filled_one f h a.valid_mask.now a.db.now i (omega arith) (omega arith) w.if-valid_mask-i-ne0.true w.bin_of.result w.bin_of.ensures.0,
+        c.loop-i.invariant.2 ∙ filled_one f h a.band.now.valid_mask.now a.band.now.db.now i (omega arith) (omega arith) w.if-valid_mask-i-ne0.true w.bin_of.result w.bin_of.ensures.0,
       )
       | else-valid_mask-i-ne0 w ↦ rw w.hist-is (
         omega arith,
         λ k. omega (arith, c.loop-i.invariant.1 k),
-        c.loop-i.invariant.2 ∙ filled_skip f h a.valid_mask.now a.db.now i (omega arith) (omega arith) w.if-valid_mask-i-ne0.false,
+        c.loop-i.invariant.2 ∙ filled_skip f h a.band.now.valid_mask.now a.band.now.db.now i (omega arith) (omega arith) w.if-valid_mask-i-ne0.false,
       )
     ]
 
@@ -32,4 +32,4 @@ pub returns : goal.returns
 unfolding filled
 returns c =
     let a = c.args in
-    sym (c.loop-i.invariant.2 ∙ filled_end (bin_of a.min_db a.inv_span) c.loop-i.hist a.valid_mask.now a.db.now c.loop-i.i (omega arith))
+    sym (c.loop-i.invariant.2 ∙ filled_end (bin_of a.min_db a.inv_span) c.loop-i.hist a.band.now.valid_mask.now a.band.now.db.now c.loop-i.i (omega arith))

@@ -10,4 +10,4 @@ use Rattle.histogram.proofs.bins.fill_bins.Given as goal
 abbrev pub invariant-loop-i : goal.invariant-loop-i
 invariant-loop-i l =
     (length l.hist ≡ 4096) × ((k : ℕ) → get_or l.hist k 0 ≤ get_or l.initial.hist k 0 + l.i)
-    × (filled (bin_of l.min_db l.inv_span) l.initial.hist (pixels l.valid_mask l.db) ≡ filled (bin_of l.min_db l.inv_span) l.hist (drop l.i (pixels l.valid_mask l.db)))
+    × (filled (bin_of l.min_db l.inv_span) l.initial.hist (pixels l.band.valid_mask.now l.band.db.now) ≡ filled (bin_of l.min_db l.inv_span) l.hist (drop l.i (pixels l.band.valid_mask.now l.band.db.now)))

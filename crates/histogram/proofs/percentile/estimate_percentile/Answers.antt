@@ -8,12 +8,12 @@ pub returns-then-is_flat : goal.returns-then-is_flat
 returns-then-is_flat c = c.flat_percentile.ensures ∙ percentile_flat _ _ _ (sym c.is_flat.ensures ∙ c.if-is_flat.true)
 
 pub find_bin-found-requires : goal.find_bin-found-requires
-find_bin-found-requires c = (c.requires, omega (arith, target-most _ _ _ c.target_of-target.ensures))
+find_bin-found-requires c = omega (arith, target-most _ _ _ c.target_of-target.ensures)
 
 pub spread_percentile-requires : goal.spread_percentile-requires
 spread_percentile-requires c =
     let e = c.find_bin-found.ensures in
-    (omega (arith, c.requires, found_bin _ _ _ e (omega (arith, c.requires))), omega (arith, found_rank _ _ _ e, target-most _ _ _ c.target_of-target.ensures))
+    (omega (arith, found_bin _ _ _ e (omega arith)), omega (arith, found_rank _ _ _ e, target-most _ _ _ c.target_of-target.ensures))
 
 pub returns-else-is_flat : goal.returns-else-is_flat
 returns-else-is_flat c =

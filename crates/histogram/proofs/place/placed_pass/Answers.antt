@@ -9,7 +9,7 @@ use Rattle.histogram.proofs.place.placed_pass.Goals as goal
 pub gather_valid-requires : goal.gather_valid-requires
 unfolding with_value
 gather_valid-requires c =
-    (c.requires.0, callable_counting _ _ (λ (s : Moments × ℕ). s.0.count) (λ s v i h. search rules) (λ s v i t p. search rules) _ _ _ (none_counted _ c.no_moments.ensures) c.requires.0 c.requires.1)
+    callable_counting _ _ (λ (s : Moments × ℕ). s.0.count) (λ s v i h. search rules) (λ s v i t p. search rules) _ _ _ (none_counted _ c.no_moments.ensures) c.args.band.now.pixels.alike c.args.band.now.short
 
 pub returns : goal.returns
 returns c = placed_pass_is _ (λ s v i t p. search rules) _ c.no_moments.ensures _ _ c.gather_valid.ensures

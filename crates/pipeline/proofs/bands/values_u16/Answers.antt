@@ -1,40 +1,41 @@
 -- `pipeline::bands::values_u16` meets its contract: by Clahe, or outside it. Assumes nothing.
-use mathlib.Core.Path.{refl, sym, ap, ◌∙◌}
-use Rattle.types.specs.declared.AutoscaleStrategy.{AutoscaleStrategy}
-use Rattle.spec.specs.Grey.{values}
-use Rattle.spec.specs.Pixels.{pixels}
+use mathlib.Core.Path.{sym, ap, ◌∙◌}
+use Rattle.std.proofs.lemmas.List.{map-id}
 use Rattle.spec.specs.Gamma.{U16}
-use Rattle.autoscale.specs.Painted.{opens}
+use Rattle.raster.specs.Bands.{pixels_of}
+use Rattle.autoscale.specs.Painted.{opens, plain_values}
 use Rattle.autoscale.proofs.Painted.{values_outside}
-use Rattle.pipeline.proofs.Accepted.{ready_lengths}
-use Rattle.pipeline.proofs.Apart.{clahe_only}
+use Rattle.pipeline.proofs.Greys.{values-none, values_tiles}
 use Rattle.pipeline.proofs.bands.values_u16.Goals as goal
+use Rattle.pipeline.proofs.bands.values_u16.Goals.{in_default-via-in-Some+else-is_clahe, in_default-via-in_default}
 
-pub tiled_values_u16-requires : goal.tiled_values_u16-requires
-unfolding opens
-tiled_values_u16-requires c = record {
-  fact_1 = record { band = c.requires.fact_1.band; out_length = c.requires.fact_1.out_length; work_length = λ _. c.requires.fact_1.work_length (sym c.is_clahe.ensures ∙ c.if-is_clahe.true) };
-  fact_2 = search c.requires.fact_2;
-}
+pub clahe_values-requires : goal.clahe_values-requires
+clahe_values-requires c = (c.requires.fact_1.work_length (sym c.is_clahe.ensures ∙ c.if-is_clahe.true), c.requires.fact_1.out_length)
+
+pub returns-in-Some-clause-out_after : goal.returns-in-Some-clause-out_after
+returns-in-Some-clause-out_after c =
+    let a = c.args in
+    let sides = a.raster.now.sides in
+    let tiles = c.clahe_values.ensures ∙ map-id _ ∙ values_tiles U16 a.strategy sides.rows sides.cols (pixels_of a.raster.now.band) a.window c.in-Some.window c.in-Some.is (sym c.is_clahe.ensures ∙ c.if-is_clahe.true) in
+    tiles
 
 pub plain_values_u16-requires : goal.plain_values_u16-requires
 unfolding opens
 plain_values_u16-requires c = record {
-  fact_1 = (ready_lengths c.requires.fact_1).0;
-  fact_2 = (ready_lengths c.requires.fact_1).1;
-  fact_3 = search c.requires.fact_2;
+  fact_1 = c.args.raster.now.sized ∙ sym c.requires.fact_1.out_length;
+  fact_2 = elim c.in_default.branch [ in_default-via-in-Some+else-is_clahe w ↦ rw (w.window-is ∙ sym w.in-Some.is) c.requires.fact_2 | in_default-via-in_default w ↦ rw w.window-is c.requires.fact_2 ];
 }
 
-pub returns : goal.returns
-returns c =
-    let a = c.args in record {
-      out_after = c.plain_values_u16.ensures ∙ sym (values_outside U16 a.strategy a.sides.rows a.sides.cols (pixels a.valid_mask.now a.db.now) a.window (sym c.is_clahe.ensures ∙ c.if-is_clahe.false));
-      kept = record { size = refl; same = λ _. refl };
-    }
-
-pub returns-then-is_clahe-clause-out_after : goal.returns-then-is_clahe-clause-out_after
-returns-then-is_clahe-clause-out_after c =
+pub returns-in_default-clause-out_after : goal.returns-in_default-clause-out_after
+returns-in_default-clause-out_after c =
     let a = c.args in
-    let px = pixels a.valid_mask.now a.db.now in
-    let b = sym c.is_clahe.ensures ∙ c.if-is_clahe.true in
-    c.tiled_values_u16.ensures ∙ ap (λ (s : AutoscaleStrategy). values U16 s a.sides.rows a.sides.cols px a.window) (clahe_only a.strategy b)
+    let sides = a.raster.now.sides in
+    let px = pixels_of a.raster.now.band in
+    c.plain_values_u16.ensures ∙ elim c.in_default.branch [
+      | in_default-via-in-Some+else-is_clahe w ↦
+          ap (λ v. plain_values U16 px v) (w.window-is ∙ sym w.in-Some.is)
+          ∙ sym (values_outside U16 a.strategy sides.rows sides.cols px a.window (sym w.is_clahe.ensures ∙ w.if-is_clahe.false))
+      | in_default-via-in_default w ↦
+          ap (λ v. plain_values U16 px v) w.window-is
+          ∙ values-none U16 a.strategy sides.rows sides.cols px a.window w.in_default.not-Some
+    ]

@@ -1,10 +1,21 @@
 -- `pipeline::windows::grey_window_u16` meets its contract: the window of the call, or 6 after its numbers. Assumes nothing.
 use mathlib.Core.Path.{sym, ◌∙◌}
-use Rattle.pipeline.proofs.GreyWindow.{grey_gamma, grey_straight}
+use Rattle.types.specs.Replies.{refusal_number}
+use Rattle.spec.specs.Answer.{read}
+use Rattle.lists.proofs.Replies.{passed_on}
+use Rattle.pipeline.proofs.GreyWindow.{grey_kept, grey_gamma, grey_straight}
 use Rattle.pipeline.proofs.windows.grey_window_u16.Goals as goal
 
+pub returns-in_err-window : goal.returns-in_err-window
+unfolding read
+returns-in_err-window c =
+    let e = c.in_err-window in
+    rw (passed_on c.from_residual.result e.field-0.0 c.from_residual.ensures.1) (grey_kept _ _ _ _ e.ensures)
+
 pub returns-then-gamma_refused : goal.returns-then-gamma_refused
-returns-then-gamma_refused c = grey_gamma _ _ _ _ _ _ _ _ c.grey_window-window.ensures (sym c.gamma_refused.ensures ∙ c.if-gamma_refused.true)
+unfolding read refusal_number
+returns-then-gamma_refused c = grey_gamma _ _ _ _ c.in_ok-window.ensures (sym c.gamma_refused.ensures ∙ c.if-gamma_refused.true)
 
 pub returns : goal.returns
-returns c = grey_straight _ _ _ _ _ _ _ _ c.grey_window-window.ensures (sym c.gamma_refused.ensures ∙ c.if-gamma_refused.false)
+unfolding read
+returns c = grey_straight _ _ _ _ c.in_ok-window.ensures (sym c.gamma_refused.ensures ∙ c.if-gamma_refused.false)

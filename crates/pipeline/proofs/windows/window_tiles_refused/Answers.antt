@@ -1,17 +1,16 @@
 -- `pipeline::windows::window_tiles_refused` meets its contract. Assumes nothing.
 use mathlib.Core.Path.{sym, ◌∙◌}
-use Rattle.pipeline.specs.Windows.{has_window, window_tiles_refused}
-use Rattle.pipeline.proofs.Windowed.{tiles_none}
+use Rattle.pipeline.specs.Windows.{window_tiles_refused}
+use Rattle.pipeline.proofs.Windowed.{tiles_blank, tiles_open}
 use Rattle.pipeline.proofs.windows.window_tiles_refused.Goals as goal
 
-pub returns-in_default : goal.returns-in_default
-returns-in_default c = tiles_none _ _ _ c.args.window c.in_default.not-Window
+pub returns-then-is_none : goal.returns-then-is_none
+returns-then-is_none c = tiles_blank _ _ _ c.args.window (c.if-is_none.ensures)
 
 pub returns-then-is_clahe : goal.returns-then-is_clahe
-unfolding window_tiles_refused has_window
 returns-then-is_clahe c =
-    rw (c.in-Window.is, sym c.is_clahe.ensures ∙ c.if-is_clahe.true) c.either_side_refused.ensures
+    c.either_side_refused.ensures ∙ tiles_open _ _ _ c.args.window (c.if-is_none.ensures) (sym c.is_clahe.ensures ∙ c.if-is_clahe.true)
 
-pub returns : goal.returns
+pub returns-else-is_clahe : goal.returns-else-is_clahe
 unfolding window_tiles_refused
-returns c = rw (sym c.is_clahe.ensures ∙ c.if-is_clahe.false)
+returns-else-is_clahe c = rw (sym c.is_clahe.ensures ∙ c.if-is_clahe.false) c.if-is_clahe.false

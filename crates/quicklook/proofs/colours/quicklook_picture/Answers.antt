@@ -1,11 +1,11 @@
 -- `quicklook::colours::quicklook_picture` meets its contract. Assumes nothing.
 use mathlib.Core.Path.{◌∙◌}
 use Rattle.quicklook.proofs.Answers.{refused_lists, same_lists}
-use Rattle.quicklook.proofs.Named.{named_strategy, unnamed_strategy, named_work, unchanged, named_mode, unnamed_mode}
+use Rattle.quicklook.proofs.Named.{named_call, unnamed_call, named_work, unchanged}
 use Rattle.quicklook.proofs.colours.quicklook_picture.Goals as goal
 
 pub returns-in_default : goal.returns-in_default
-returns-in_default c = let r = refused_lists _ _ _ _ _ _ _ _ _ (unnamed_strategy _ _ _ c.strategy_of.ensures c.in_default.is) (unchanged _ _) in record {
+returns-in_default c = let r = refused_lists _ _ _ _ _ _ _ _ _ (unnamed_call _ _ _ _ c.try_from.ensures _ c.in_default.is) (unchanged _ _) in record {
   reply = r.0;
   grey1 = r.1.0;
   grey2 = r.1.1.0;
@@ -13,10 +13,10 @@ returns-in_default c = let r = refused_lists _ _ _ _ _ _ _ _ _ (unnamed_strategy
   work = r.1.1.1.1;
 }
 
-pub returns-in_default-mode_of : goal.returns-in_default-mode_of
-returns-in_default-mode_of c =
+pub returns-in_default-try_from : goal.returns-in_default-try_from
+returns-in_default-try_from c =
     let r = refused_lists _ _ _ _ _ _ _ _ _
-    (named_strategy _ _ _ c.strategy_of.ensures _ c.in-Names.is ∙ unnamed_mode _ _ _ c.mode_of.ensures c.in_default-mode_of.is)
+    (named_call _ _ _ _ c.try_from.ensures _ c.in-Ok.is ∙ unnamed_call _ _ _ _ c.try_from-2.ensures _ c.in_default-try_from.is)
     (unchanged _ _) in record {
       reply = r.0;
       grey1 = r.1.0;
@@ -27,12 +27,12 @@ returns-in_default-mode_of c =
 
 pub returns : goal.returns
 returns c =
-    let found = c.strategy_of.ensures in
-    let found-mode = c.mode_of.ensures in
+    let found = c.try_from.ensures in
+    let found-mode = c.try_from-2.ensures in
     let r = same_lists _ _ _ _ _ _ _ _ _ _ _ _ _ _ _
-    (named_strategy _ _ _ found _ c.in-Names.is ∙ named_mode _ _ _ found-mode _ c.in-Names-mode_of.is) c.reply_number.ensures (c.synthetic_rgb_picture.ensures.reply, (c.synthetic_rgb_picture.ensures.grey1, (c.synthetic_rgb_picture.ensures.grey2, (c.synthetic_rgb_picture.ensures.rgb, c.synthetic_rgb_picture.ensures.work))))
-    (named_work _ _ found _ c.in-Names.is _ _
-    (named_strategy _ _ _ found _ c.in-Names.is ∙ named_mode _ _ _ found-mode _ c.in-Names-mode_of.is) _ _ c.synthetic_rgb_picture.ensures.work) in record {
+    (named_call _ _ _ _ found _ c.in-Ok.is ∙ named_call _ _ _ _ found-mode _ c.in-Ok-try_from.is) c.reply_number.ensures (c.synthetic_rgb_picture.ensures.reply, (c.synthetic_rgb_picture.ensures.grey1, (c.synthetic_rgb_picture.ensures.grey2, (c.synthetic_rgb_picture.ensures.rgb, c.synthetic_rgb_picture.ensures.work))))
+    (named_work _ _ _ found _ c.in-Ok.is _ _
+    (named_call _ _ _ _ found _ c.in-Ok.is ∙ named_call _ _ _ _ found-mode _ c.in-Ok-try_from.is) _ _ c.synthetic_rgb_picture.ensures.work) in record {
       reply = r.0;
       grey1 = r.1.0;
       grey2 = r.1.1.0;

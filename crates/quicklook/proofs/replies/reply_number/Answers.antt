@@ -2,10 +2,10 @@
 use Rattle.spec.specs.Answer.{reply_number}
 use Rattle.quicklook.proofs.replies.reply_number.Goals as goal
 
-pub returns-in-Done : goal.returns-in-Done
+pub returns-in-Ok : goal.returns-in-Ok
 unfolding reply_number
-returns-in-Done c = rw c.in-Done.is
+returns-in-Ok c = rw c.in-Ok.is
 
-pub returns-in-Refused : goal.returns-in-Refused
+pub returns-in-Err : goal.returns-in-Err
 unfolding reply_number
-returns-in-Refused c = rw c.in-Refused.is
+returns-in-Err c = rw c.in-Err.is c.from.ensures

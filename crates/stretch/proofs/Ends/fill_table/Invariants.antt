@@ -5,4 +5,4 @@ use Rattle.stretch.specs.Tables.{Stretches}
 use Rattle.stretch.proofs.Ends.fill_table.Given as goal
 
 abbrev pub invariant-loop-i : goal.invariant-loop-i
-invariant-loop-i g l = (length l.table ≡ g.row.N) × Stretches l.self.lo l.self.hi l.i l.table
+invariant-loop-i g l = (length l.value-items ≡ l.n) × Stretches l.self.lo l.self.hi l.i l.value-items
