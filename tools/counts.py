@@ -1,8 +1,8 @@
 #!/usr/bin/env python3
 """counts.py [ROOT]: what a reader has to carry, counted over crates/: lines (without the tables of numbers), answers to goals, parameters, names, what is
 public. A report, but for two things that end it with 1: a function of more than eight parameters that is not the picture call or a run of it
-in runs (one run holds its eight lists, two runs hold two scenes), and a `pub fn` that no other crate calls, but for two whose promise was
-public before their callers had a type for it. A method counts for its parameters; who calls it is not looked for."""
+in runs (one run holds its eight lists, two runs hold two scenes), and a `pub fn` that no other crate calls. A method counts
+for its parameters; who calls it is not looked for."""
 import glob
 import os
 import re
@@ -101,5 +101,4 @@ print(f'contracts that begin with a definition: {clauses}, of another name than 
 allowed = {'pipeline::synthetic_rgb_picture_copol 11', 'pipeline::synthetic_rgb_picture 12', 'quicklook::quicklook_picture 12',
            'quicklook::quicklook_picture_copol 13', 'quicklook::quicklook_picture_windows 10', 'runs::altered_picture 15', 'runs::altered_windows 9',
            'runs::ranked_picture 10', 'runs::reordered_picture 17', 'runs::swapped_picture 13'}
-kept = {'colour_tables::blue_above_thresholds', 'gamma::guesses_of'}
-sys.exit(bool(set(unused) - kept or set(many) - allowed))
+sys.exit(bool(unused or set(many) - allowed))
