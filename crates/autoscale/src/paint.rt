@@ -1,7 +1,7 @@
 // The painting of valid pixels between the ends of a window, outside Clahe, each float step in the source's order; other gammas: curve.rt. A dB is
 // read where its mark is not 0 and nowhere else (`valid_db`): blocks whose pixels are all valid go without a test, and in the others an invalid pixel
 // works on a valid one's dB.
-// Kept: that an output is as long as its band is one clause of each function here; a struct of band and output would be made again for each block
+// Kept: that an output is as long as its band is one clause of each function that paints; a struct of band and output would be made again for each block
 // and say no more than that clause. That a block's marks are all valid, or that one is, is asked by the two functions alone that a block goes to.
 ghost use Rattle.std.specs.Prelude.{◌≡◌, ◌==◌, not, cond, map, position, replicate, ◌+◌, ◌<◌, min, eqb, length, get_or};
 ghost use Rattle.std.specs.Float.{nan};
