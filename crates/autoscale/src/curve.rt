@@ -84,7 +84,7 @@ fn paint_block_by(
     }
 }
 
-// A band by the thresholds, block by block.
+// A band by the thresholds, block by block, by places as in paint.rt.
 fn paint_blocks_by(
     band: &Band,
     window: WindowFloats,

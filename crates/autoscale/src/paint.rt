@@ -131,6 +131,7 @@ fn paint_block<D: Depth>(band: &Band, window: WindowFloats, out: &mut [D])
 }
 
 // A band by the straight line, block by block.
+// Kept: by places, since of a list that `chunks_mut` cuts up the library says how long it ends and not what stands in it.
 pub(crate) fn paint_blocks<D: Depth>(band: &Band, window: WindowFloats, out: &mut [D])
     requires { length band.now.db.now ≡ length out.old }
     ensures { out.new ≡ map (straight D.of D.depth window) (pixels_of band.now) }

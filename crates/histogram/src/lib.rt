@@ -73,6 +73,7 @@ pub fn summary(band: &CountedBand, m: Moments, place: Place) -> HistogramStats
 }
 
 // The statistics call: refusals 1 to 4, then the record.
+// Kept: here and below sides and lists apart, as C lends them: what holds of them is tested here.
 pub fn compute_histogram_stats(
     rows: usize,
     cols: usize,

@@ -42,7 +42,8 @@ fn copy_row<T: Copy>(row: &[T], padded: &mut [T], at: usize)
 }
 
 // The rows, one after the other, over zeros.
-// Kept: the lengths are a clause, since a struct round what is lent would have to be made at each call and say no more.
+// Kept: the lengths are a clause, since a struct round what is lent would have to be made at each call and say no more; and rows go by their places, since
+// of a list that `chunks_mut` cuts up the library says how long it ends and not what stands in it.
 #[tactic(auto, using(crate::proofs::Square::row_room, crate::proofs::Square::room))]
 fn place_rows<T: Copy>(zero: T, rows: usize, cols: usize, pixels: &[T], padded: &mut [T])
     requires { (length pixels.now ≡ rows * cols) × (length padded.old ≡ max rows cols * max rows cols) }
