@@ -87,7 +87,7 @@ for crate, texts in code.items():
                 many.append(f'{crate}::{name} {parameters}')
             if is_public and f'extern "C" fn {name}' not in text:
                 public += 1
-                called = rf'\b{crate}::(?:\w+::)*{name}\b'
+                called = rf'\b{crate}::(?:\w+::)*(?:{name}\b|\{{[^}}]*\b{name}\b)'
                 if not any(re.search(called, t) for other, rest in code.items() if other != crate for _, t in rest):
                     unused.append(f'{crate}::{name}')
             head = re.search(r'≡ (?:number \()?\(*(?:[A-Z]\w*\.)?(\w+)', clause)

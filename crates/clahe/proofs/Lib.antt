@@ -10,6 +10,9 @@ pub mod Bounds
 pub mod Rows
 pub mod Tiling
 pub mod Parts
+pub mod Within
+pub mod Levels
+pub mod Filled
 pub mod Shades
 pub mod Painted
 pub mod Listed

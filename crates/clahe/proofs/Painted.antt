@@ -1,8 +1,7 @@
--- A picture row by row, and that its values from the work list are those of the tables. Assumes nothing.
-use Rattle.std.proofs.Common.{◌≡◌, ℕ, ◌+◌, ◌-◌, ◌*◌, ◌/◌, ◌%◌, ◌<◌, ◌≤◌, List, [], ◌∷◌, ◌++◌, map, length, get_or, take, sym, refl, ap, ◌∙◌, subst, add-zero, mul-le-mul_right, mod-eq_of_lt, arith, ext_get_or}
-use mathlib.Core.List.{zip_with}
+-- A picture row by row, each value in place of its level, and that its values from the work list and the levels are those of the tables. Assumes nothing.
+use Rattle.std.proofs.Common.{◌≡◌, ℕ, zero, suc, ◌+◌, ◌-◌, ◌*◌, ◌/◌, ◌%◌, ◌<◌, ◌≤◌, List, [], ◌∷◌, ◌++◌, map, length, get_or, take, drop, sym, refl, ap, ◌∙◌, subst, mul-le-mul_right, arith, ext_get_or, length-append, length-take, length-drop, get_or-take, get_or-drop}
 use native.Mathlib.Decide.{dec_lt}
-use native.Mathlib.Nat.{mul-add-div_right, mul-add-mod_self_right, div-eq_of_lt}
+use mathlib.Core.List.{zip_with}
 use lib.Ieee.{Float, nan, binary64, mul, to_unsigned}
 use lib.ListN.{length-map}
 use Rattle.raster.specs.declared.band.Band.{Band}
@@ -11,46 +10,22 @@ use Rattle.types.specs.declared.TilePosition.{TilePosition}
 use Rattle.types.specs.declared.WindowFloats.{WindowFloats}
 use Rattle.spec.specs.Floats.{zero64, one64, clamp_float}
 use Rattle.spec.specs.Lists.{places}
-use Rattle.spec.specs.Pixels.{Pixel, off, on, pixel, pixels}
+use Rattle.spec.specs.Pixels.{Pixel, off, on, pixel}
+use Rattle.spec.specs.Grey.{normal_pixel}
+use Rattle.spec.specs.Value.{normalized}
 use Rattle.spec.specs.Clahe.{tile_side, tile_position, level_of, sum_at, sample, equalised, tile_tables, clahe_values}
 use Rattle.clahe.specs.declared.columns.Column.{Column}
-use Rattle.clahe.specs.Work.{Holds, Among, sum_in, next_tile, sampled}
-use Rattle.clahe.specs.Band.{normal_in, normal_pixels}
-use Rattle.clahe.specs.Paint.{shade, column_of, columns_of, shade_at, row_shades, place_shade, shades}
-use Rattle.clahe.proofs.Whole.{times_most, next_times}
-use Rattle.clahe.proofs.Cells.{places-length, places-at, map_at}
-use Rattle.clahe.proofs.Parts.{part, Part, part_length, part_at, band_length, zip-at, zip_length, put-before, put-inside}
-use Rattle.clahe.proofs.Positions.{among, among_of, second_next}
-
--- ---- the row and the column of a place
-
-row_of : (r c cols : ℕ) → c < cols → (r * cols + c) / cols ≡ r
-row_of r c cols h = mul-add-div_right {m = cols} (omega arith) r c ∙ ap (λ (n : ℕ). r + n) (div-eq_of_lt {n = c} {m = cols} h) ∙ add-zero r
-
-column_of_lem : (r c cols : ℕ) → c < cols → (r * cols + c) % cols ≡ c
-column_of_lem r c cols h = mul-add-mod_self_right r cols c ∙ mod-eq_of_lt {n = c} {m = cols} h
-
-nth : (n k : ℕ) → k < n → get_or (places n) k 0 ≡ k
-nth n k h = sym (map_at (λ i. i) 0 0 (places n) k (omega (arith, places-length 0 n))) ∙ places-at (λ i. i) 0 n k h
-
--- ---- a pixel of a band
-
-module _ (w : WindowFloats) (band : Band) where
-  abbrev marks : List ℕ
-  marks = band.valid_mask.now
-
-  abbrev db : List Float
-  db = band.db.now
-
-  normal_pixels-length : length (normal_pixels w band) ≡ length db
-  unfolding pixels
-  normal_pixels-length = length-map (pixels marks db) (normal_in w) ∙ zip_length pixel marks db band.alike
-
-  normal_pixels-at : (i : ℕ) → i < length db → get_or (normal_pixels w band) i off ≡ normal_in w (pixel (get_or marks i 0) (get_or db i nan))
-  unfolding pixels
-  normal_pixels-at i h =
-      map_at (normal_in w) off off (pixels marks db) i (omega (arith, zip_length pixel marks db band.alike))
-      ∙ ap (normal_in w) (zip-at pixel 0 nan off marks db i (omega (arith, band.alike)) h)
+use Rattle.clahe.specs.declared.sampling.Row.{Row}
+use Rattle.clahe.specs.Work.{Holds, Among, ColumnAmong, tiles_row, sum_in, sampled}
+use Rattle.clahe.specs.Band.{normal_in, normal_pixels, level_at}
+use Rattle.clahe.specs.Paint.{shade, marked, column_of, columns_of, no_column, shade_at, part_shades, place_shade, shades}
+use Rattle.clahe.proofs.Whole.{times_most}
+use Rattle.clahe.proofs.Parts.{put-before, put-inside, put-after}
+use Rattle.clahe.proofs.InPlace.{Turned, turned_all}
+use Rattle.clahe.proofs.Positions.{among, columns-length, column_among}
+use Rattle.lists.proofs.Places.{next_times, row_of, column_of_lem, from-length, places-at, map_at, place_at}
+use Rattle.lists.proofs.Zip.{zip-at, zip_length}
+use Rattle.clahe.proofs.Levels.{pixels_length, pixel_at}
 
 -- ---- row by row
 
@@ -67,159 +42,206 @@ module _ (s : Raster) where
   abbrev Cols : ℕ
   Cols = s.sides.cols
 
-  module _ (r : ℕ) where
-    -- a band of the pixels of row r
-    abbrev pub Row : Band → Type 0
-    Row = Part (r * Cols) Cols s.band
+  abbrev marks : List ℕ
+  marks = s.band.valid_mask.now
 
-    module _ (h : r < Rows) where
-      pub row_fits : Fits s r
-      row_fits = (
-        omega (arith, next_times r Cols, mul-le-mul_right {m = r + 1} {n = Rows} Cols (omega arith)),
-        times_most Rows Cols 4096 4096 s.small.0 s.small.1,
-        s.band.alike ∙ s.sized,
-        s.sized,
-      )
+  pub row_fits : (r : ℕ) → r < Rows → Fits s r
+  row_fits r h = (
+    omega (arith, next_times r Cols, mul-le-mul_right {m = r + 1} {n = Rows} Cols (omega arith)),
+    times_most Rows Cols 4096 4096 s.small.0 s.small.1,
+    s.band.alike ∙ s.sized,
+    s.sized,
+  )
 
-      module _ (row : Band) (q : Row row) where
-        row_length : length row.db.now ≡ Cols
-        row_length = band_length (r * Cols) Cols s.band row q (omega (arith, row_fits))
+  -- the columns of a raster
+  module _ (xs : List Column) (e : xs ≡ columns_of Cols) where
+    pub columns_many : length xs ≡ Cols
+    columns_many = ap length e ∙ columns-length Cols
 
-        -- what the function of a row asks
-        pub row_ready : {A : Type 0} (side : ℕ) (y : TilePosition) (xs : List Column) (out : List A) → length out ≡ Rows * Cols → y ≡ tile_position side r
-            → xs ≡ columns_of Cols
-            → ((length row.db.now ≤ 4096) × (length (part (r * Cols) Cols out) ≡ length row.db.now))
-            × Among y × (xs ≡ columns_of (length row.db.now))
-        row_ready side y xs out e p k = (
-          (omega (arith, row_length, s.small.1), part_length (r * Cols) Cols out (omega (arith, e, row_fits)) ∙ sym row_length),
-          among_of side r y p,
-          k ∙ ap columns_of (sym row_length),
-        )
+    pub columns_among : (c : ℕ) → c < length xs → ColumnAmong (get_or xs c no_column)
+    columns_among c l = (column_among Cols c no_column xs e (omega (arith, columns_many))).1
 
-  module _ {A : Type 0} (of : ℕ → A) (full : Float) (work : List Float) (w : WindowFloats) where
-    abbrev Px : List Pixel
-    Px = normal_pixels w s.band
+  module _ {A : Type 0} (of : ℕ → A) (number : A → ℕ) (full : Float) (work : List Float) (old : List A) where
+    abbrev Levels : List ℕ
+    Levels = map number old
 
-    -- the value of the pixel at a place
-    abbrev Value : ℕ → A
-    Value i = of (place_shade full work Rows Cols i (get_or Px i off))
+    abbrev Value : ℕ → ℕ
+    Value = place_shade full work Rows Cols marks Levels
 
-    -- the rows before r have their values
-    abbrev pub Above : ℕ → List A → Type 0
-    Above r out = (i : ℕ) → i < r * Cols → get_or out i (of 0) ≡ Value i
+    -- what stands in place of the level at place i
+    abbrev pub painted : ℕ → A → A
+    painted i a = of (Value i)
 
-    module _ (r : ℕ) (h : r < Rows) (y : TilePosition) (e : y ≡ tile_position (tile_side Rows) r) (row : Band) (b : Row r row) where
-      abbrev value : ℕ → ℕ
-      value = shade_at full work y w row
+    module _ (given : length old ≡ Rows * Cols) where
+      module _ (r n : ℕ) (h : r < Rows) (l : n ≡ Cols) (out : List A) (f : Turned (of 0) painted old (r * Cols) out) where
+        abbrev p : ℕ
+        p = r * Cols
 
-      abbrev count : ℕ
-      count = length row.db.now
+        fits : p + n ≤ Rows * Cols
+        fits = omega (arith, row_fits r h)
 
-      row_size : count ≡ Cols
-      row_size = row_length r h row b
+        abbrev part_of : {B : Type 0} → List B → List B
+        part_of xs = take n (drop p xs)
 
-      row_value : (c : ℕ) → c < Cols → value c ≡ place_shade full work Rows Cols (r * Cols + c) (get_or Px (r * Cols + c) off)
-      row_value c g =
-          cc (
-            e ∙ ap (tile_position (tile_side Rows)) (sym (row_of r c Cols g)),
-            row_size,
-            column_of_lem r c Cols g,
-            b.0,
-            b.1,
-            part_at (r * Cols) Cols 0 s.band.valid_mask.now c g,
-            part_at (r * Cols) Cols nan s.band.db.now c g,
-            normal_pixels-at w s.band (r * Cols + c) (omega (arith, row_fits r h)),
-          )
+        part_size : length (part_of out) ≡ n
+        part_size = simp (length-take, length-drop) (omega (arith, given, f.size, fits))
 
-      put : (out ys zs : List A) → length out ≡ Rows * Cols → ys ≡ map of (row_shades full work y w row)
-          → Above r out → Above (r + 1) (take (r * Cols) out ++ (ys ++ zs))
-      unfolding row_shades
-      put out ys zs n q all i l = go (dec_lt i (r * Cols))
-        where
-          a : ℕ
-          a = r * Cols
+        at_part : {B : Type 0} (d : B) (xs : List B) (c : ℕ) → c < n → get_or (part_of xs) c d ≡ get_or xs (p + c) d
+        at_part d xs c g = get_or-take n (drop p xs) c d g ∙ get_or-drop p xs c d
 
-          fits : a ≤ length out
-          fits = omega (arith, row_fits r h)
+        level_at_place : (c : ℕ) → c < n → get_or (map number (part_of out)) c 0 ≡ get_or Levels (p + c) 0
+        level_at_place c g =
+            map_at number (of 0) 0 (part_of out) c (omega (arith, part_size)) ∙ ap number (at_part (of 0) out c g ∙ f.same (p + c) (omega arith))
+            ∙ sym (map_at number (of 0) 0 old (p + c) (omega (arith, given, fits)))
 
-          values : List ℕ
-          values = map value (places count)
+        module _ (side : ℕ) (y : TilePosition) (d : side ≡ tile_side Rows) (e : y ≡ tile_position side r) (row : Row) (t : (row.top.now ≡ tiles_row work y.first) × (row.bottom.now ≡ tiles_row work y.second) × (row.weight ≡ y.weight))
+            (xs : List Column) (m : xs ≡ columns_of Cols) where
+          part_value : (c : ℕ) → c < n → shade_at full row.top.now row.bottom.now row.weight (part_of marks) xs (map number (part_of out)) c ≡ Value (p + c)
+          part_value c g =
+              cc (
+                t.0,
+                t.1,
+                t.2,
+                e,
+                d,
+                sym (row_of r c Cols (omega arith)),
+                column_of_lem r c Cols (omega arith),
+                (column_among Cols c no_column xs m (omega arith)).0,
+                at_part 0 marks c g,
+                level_at_place c g,
+              )
 
-          as_many : length values ≡ Cols
-          as_many = length-map (places count) value ∙ places-length 0 count ∙ row_size
+          pub before_next : (ys : List A) → ys ≡ map of (part_shades full row.top.now row.bottom.now row.weight (part_of marks) xs (map number (part_of out))) → Turned (of 0) painted old ((r + 1) * Cols) (take p out ++ (ys ++ drop n (drop p out)))
+          unfolding part_shades
+          before_next ys w =
+              record {
+                size = simp (length-append, length-take, length-drop) (omega (arith, given, f.size, size, fits));
+                new = λ i g. new i g (dec_lt i p);
+                same = λ i g. put-after (of 0) p n out ys (omega (arith, given, f.size, fits)) size i (omega (arith, next_times r Cols)) ∙ f.same i (omega (arith, next_times r Cols));
+              }
+            where
+              levels : List ℕ
+              levels = map number (part_of out)
 
-          size : length ys ≡ Cols
-          size = ap length q ∙ length-map values of ∙ as_many
+              values : List ℕ
+              values = part_shades full row.top.now row.bottom.now row.weight (part_of marks) xs levels
 
-          at : (c : ℕ) → c < Cols → get_or (take a out ++ (ys ++ zs)) (a + c) (of 0) ≡ Value (a + c)
-          at c g =
-              put-inside (of 0) a out ys zs fits c (omega (arith, size)) ∙ ap (λ (t : List A). get_or t c (of 0)) q ∙ map_at of 0 (of 0) values c (omega (arith, as_many))
-              ∙ ap of (places-at value 0 count c (omega (arith, row_size)) ∙ row_value c g)
+              count : length levels ≡ n
+              count = length-map (part_of out) number ∙ part_size
 
-          go : Dec (i < a) → get_or (take a out ++ (ys ++ zs)) i (of 0) ≡ Value i
-          go (yes b) = put-before (of 0) a out ys zs fits i b ∙ all i b
-          go (no b) =
-              let c = i - a in
-              let t : a + c ≡ i = omega (arith, b) in
-              subst (λ (j : ℕ). get_or (take a out ++ (ys ++ zs)) j (of 0) ≡ Value j) t (at c (omega (arith, b, next_times r Cols)))
+              as_many : length values ≡ n
+              as_many = length-map (places (length levels)) (shade_at full row.top.now row.bottom.now row.weight (part_of marks) xs levels) ∙ from-length 0 (length levels) ∙ count
 
-    -- the rows before r and row r
-    pub row_put : (r side : ℕ) (y : TilePosition) (row : Band) (out ys zs : List A) → r < Rows → side ≡ tile_side Rows → y ≡ tile_position side r → Row r row
-        → length out ≡ Rows * Cols → ys ≡ map of (row_shades full work y w row)
-        → Above r out → Above (r + 1) (take (r * Cols) out ++ (ys ++ zs))
-    row_put r side y row out ys zs h d e b = put r h y (e ∙ ap (λ (m : ℕ). tile_position m r) d) row b out ys zs
+              size : length ys ≡ n
+              size = ap length w ∙ length-map values of ∙ as_many
 
-    pub all_rows : (r : ℕ) (out : List A) → length out ≡ Rows * Cols → r ≡ Rows → Above r out → out ≡ map of (shades full work Rows Cols Px)
-    unfolding shades
-    all_rows r out n e above =
-        let size = normal_pixels-length w s.band ∙ s.sized in
-        let F = place_shade full work Rows Cols in
-        let zs = zip_with F (places (length Px)) Px in
-        let m = places-length 0 (length Px) in
-        let count = zip_length F (places (length Px)) Px m in
-        let all = subst (λ (k : ℕ). Above k out) e above in
-        ext_get_or (of 0) out (map of zs) (n ∙ sym size ∙ sym count ∙ sym (length-map zs of))
-        (λ i h. all i (omega arith)
-        ∙ sym (map_at of 0 (of 0) zs i (omega (arith, size, count))
-        ∙ ap of (zip-at F 0 off 0 (places (length Px)) Px i (omega (arith, size, m)) (omega (arith, size)) ∙ ap (λ (k : ℕ). F k (get_or Px i off)) (nth (length Px) i (omega (arith, size))))))
+              put : List A
+              put = take p out ++ (ys ++ drop n (drop p out))
+
+              here : (c : ℕ) → c < n → get_or put (p + c) (of 0) ≡ of (Value (p + c))
+              here c g =
+                  put-inside (of 0) p out ys (drop n (drop p out)) (omega (arith, given, f.size, fits)) c (omega (arith, size)) ∙ ap (λ (t : List A). get_or t c (of 0)) w
+                  ∙ map_at of 0 (of 0) values c (omega (arith, as_many))
+                  ∙ ap of (places-at (shade_at full row.top.now row.bottom.now row.weight (part_of marks) xs levels) 0 (length levels) c (omega (arith, count)) ∙ part_value c g)
+
+              new : (i : ℕ) → i < (r + 1) * Cols → Dec (i < p) → get_or put i (of 0) ≡ of (Value i)
+              new i g (yes b) = put-before (of 0) p out ys (drop n (drop p out)) (omega (arith, given, f.size, fits)) i b ∙ f.new i b
+              new i g (no b) =
+                  let c = i - p in
+                  let t : p + c ≡ i = omega (arith, b) in
+                  subst (λ (j : ℕ). get_or put j (of 0) ≡ of (Value j)) t (here c (omega (arith, b, next_times r Cols)))
+
+      pub before_all : (p : ℕ) (out : List A) → p ≡ Rows * Cols → Turned (of 0) painted old p out → out ≡ map of (shades full work Rows Cols marks Levels)
+      unfolding shades
+      before_all p out e f =
+          let zs = map Value (places (length Levels)) in
+          let count = length-map old number in
+          let many = length-map (places (length Levels)) Value ∙ from-length 0 (length Levels) ∙ count in
+          turned_all (of 0) painted old p out (map of zs) f (omega (arith, e, given)) (length-map zs of ∙ many)
+          (λ k l. map_at of 0 (of 0) zs k (omega (arith, many)) ∙ ap of (places-at Value 0 (length Levels) k (omega (arith, count))))
 
 -- ---- the work list for the tables
 
 module _ (tables : List (List ℕ)) (work : List Float) (s : Holds tables work) where
-  tile_sum : (ty tx b : ℕ) → ty < 8 → tx < 8 → b < 256 → sum_in work ty tx b ≡ sum_at (get_or tables (ty * 8 + tx) []) b
-  tile_sum ty tx b h k g = s.at (ty * 8 + tx) b (omega arith) g
+  tile_sum : (ty tx b : ℕ) → ty < 8 → tx < 8 → b < 256 → sum_in (tiles_row work ty) (tx * 256) b ≡ sum_at (get_or tables (ty * 8 + tx) []) b
+  tile_sum ty tx b h k g =
+      let e : ty * 2048 + (tx * 256 + b) ≡ (ty * 8 + tx) * 256 + b = omega arith in
+      get_or-take 2048 (drop (ty * 2048) work) (tx * 256 + b) nan (omega arith) ∙ get_or-drop (ty * 2048) work (tx * 256 + b) nan ∙ ap (λ (i : ℕ). get_or work i nan) e
+      ∙ s.at (ty * 8 + tx) b (omega arith) g
 
-  sampled_is : (y : TilePosition) (cols c b : ℕ) → Among y → b < 256 → sampled work y (column_of cols c) b ≡ sample tables y (tile_position (tile_side cols) c) b
+  sampled_is : (y : TilePosition) (cols c b : ℕ) → Among y → b < 256
+      → sampled (tiles_row work y.first) (tiles_row work y.second) y.weight (column_of cols c) b ≡ sample tables y (tile_position (tile_side cols) c) b
   unfolding sampled sample
   sampled_is y cols c b h g =
       let x = tile_position (tile_side cols) c in
       let k = among (tile_side cols) c in
-      rw (second_next (tile_side cols) c)
-      (cc (
+      cc (
         tile_sum y.first x.first b h.0 k.0 g,
-        tile_sum y.first (next_tile x.first) b h.0 (omega arith) g,
+        tile_sum y.first x.second b h.0 k.1 g,
         tile_sum y.second x.first b h.1 k.0 g,
-        tile_sum y.second (next_tile x.first) b h.1 (omega arith) g,
-      ))
+        tile_sum y.second x.second b h.1 k.1 g,
+      )
 
   level-below : (u : Float) → level_of u < 256
   unfolding level_of
   level-below u = omega arith
 
-  shade_is : (full : Float) (rows cols i : ℕ) (p : Pixel) → place_shade full work rows cols i p ≡ equalised full rows cols tables i p
-  unfolding shade equalised
-  shade_is full rows cols i off = refl
-  shade_is full rows cols i (on u) =
+  -- the value of a pixel from its mark and its level
+  shade_is : (full : Float) (rows cols i m : ℕ) (v : Float) (w : WindowFloats)
+      → let y = tile_position (tile_side rows) (i / cols) in
+      marked m (shade full (tiles_row work y.first) (tiles_row work y.second) y.weight (column_of cols (i % cols)) (level_at (normal_in w (pixel m v)))) ≡ equalised full rows cols tables i (normal_in w (pixel m v))
+  unfolding marked shade equalised pixel normal_pixel level_at
+  shade_is full rows cols i zero v w = refl
+  shade_is full rows cols i (suc m) v w =
+      let u = normalized w.low w.high w.range v in
       ap (λ (t : Float). to_unsigned 64 (mul binary64 (clamp_float zero64 one64 t) full))
       (sampled_is (tile_position (tile_side rows) (i / cols)) cols (i % cols) (level_of u) (among (tile_side rows) (i / cols)) (level-below u))
 
-zip-same : {A : Type 0} {B : Type 0} {C : Type 0} (f g : A → B → C) → ((a : A) (b : B) → f a b ≡ g a b) → (xs : List A) (ys : List B) → zip_with f xs ys ≡ zip_with g xs ys
-unfolding zip_with
-zip-same f g e [] ys = refl
-zip-same f g e (x ∷ xs) [] = refl
-zip-same f g e (x ∷ xs) (y ∷ ys) = cc (e x y, zip-same f g e xs ys)
+-- the levels that elements hold, where each holds a pixel's
+pub levels_kept : {A : Type 0} (of : ℕ → A) (number : A → ℕ) → ((n : ℕ) → n < 256 → number (of n) ≡ n) → (px : List Pixel) {out : List A} → out ≡ map of (map level_at px) → map number out ≡ map level_at px
+unfolding level_at level_of
+levels_kept of number law px e = ap (map number) e ∙ go px
+  where
+    below : (p : Pixel) → level_at p < 256
+    below off = omega arith
+    below (on u) = omega arith
 
-pub shades_are : (full : Float) (rows cols : ℕ) (px : List Pixel) (work : List Float) → Holds (tile_tables rows cols px) work → shades full work rows cols px ≡ clahe_values full rows cols px
+    go : (ps : List Pixel) → map number (map of (map level_at ps)) ≡ map level_at ps
+    go [] = refl
+    go (p ∷ ps) = cc (law (level_at p) (below p), go ps)
+
+pub shades_are : (full : Float) (rows cols : ℕ) (w : WindowFloats) (band : Band) (work : List Float) (bs : List ℕ) → Holds (tile_tables rows cols (normal_pixels w band)) work
+    → bs ≡ map level_at (normal_pixels w band) → shades full work rows cols band.valid_mask.now bs ≡ clahe_values full rows cols (normal_pixels w band)
 unfolding shades clahe_values
-shades_are full rows cols px work s =
-    zip-same (place_shade full work rows cols) (equalised full rows cols (tile_tables rows cols px)) (shade_is (tile_tables rows cols px) work s full rows cols) (places (length px)) px
+shades_are full rows cols w band work bs s e =
+    ext_get_or 0 (map value (places (length bs))) (zip_with F (places n) px) (length-map (places (length bs)) value ∙ from-length 0 (length bs) ∙ many ∙ sym count)
+    (λ i h. let l = length-map (places (length bs)) value in let p = from-length 0 (length bs) in
+    places-at value 0 (length bs) i (omega (arith, l, p))
+    ∙ at i (omega (arith, l, p, many, pixels_length w band))
+    ∙ sym (zip-at F 0 off 0 (places n) px i (omega (arith, l, p, many, from-length 0 n)) (omega (arith, l, p, many)) ∙ ap (λ (k : ℕ). F k (get_or px i off)) (place_at n i (omega (arith, l, p, many)))))
+  where
+    px : List Pixel
+    px = normal_pixels w band
+
+    n : ℕ
+    n = length px
+
+    F : ℕ → Pixel → ℕ
+    F = equalised full rows cols (tile_tables rows cols px)
+
+    value : ℕ → ℕ
+    value = place_shade full work rows cols band.valid_mask.now bs
+
+    many : length bs ≡ n
+    many = ap length e ∙ length-map px level_at
+
+    count : length (zip_with F (places n) px) ≡ n
+    count = zip_length F (places n) px (sym (from-length 0 n)) ∙ from-length 0 n
+
+    at : (i : ℕ) → i < length band.db.now → value i ≡ F i (get_or px i off)
+    at i h =
+        let y = tile_position (tile_side rows) (i / cols) in
+        ap (λ (b : ℕ). marked (get_or band.valid_mask.now i 0) (shade full (tiles_row work y.first) (tiles_row work y.second) y.weight (column_of cols (i % cols)) b))
+        (ap (λ (l : List ℕ). get_or l i 0) e ∙ map_at level_at off 0 px i (omega (arith, pixels_length w band)) ∙ ap level_at (pixel_at w band i h))
+        ∙ shade_is (tile_tables rows cols px) work s full rows cols i (get_or band.valid_mask.now i 0) (get_or band.db.now i nan) w
+        ∙ ap (F i) (sym (pixel_at w band i h))

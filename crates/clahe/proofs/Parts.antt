@@ -1,15 +1,13 @@
 -- Parts of lists that are made element by element. Assumes nothing.
-use Rattle.std.proofs.Common.{◌≡◌, ℕ, zero, suc, ◌+◌, ◌-◌, ◌*◌, ◌<◌, ◌≤◌, List, [], ◌∷◌, ◌++◌, map, length, get_or, take, drop, sym, refl, ap, ◌∙◌, le_of_suc-le-suc, not-suc-le-zero, arith, length-drop, length-take, length-take-le, get_or-drop, get_or-take, get_or-append-add, below_more}
-use mathlib.Core.List.{zip_with}
-use native.Mathlib.Nat.{suc_inj}
+use Rattle.std.proofs.Common.{◌≡◌, ℕ, zero, suc, ◌+◌, ◌-◌, ◌*◌, ◌<◌, ◌≤◌, List, [], ◌∷◌, ◌++◌, map, length, get_or, take, drop, sym, refl, ap, ◌∙◌, arith, length-drop, length-take, length-take-le, get_or-drop, get_or-take, get_or-append-add, below_more}
 use lib.Ieee.{Float, nan}
 use lib.ListN.{length-map, get_or-append}
 use Rattle.raster.specs.declared.band.Band.{Band}
 use Rattle.types.specs.declared.WindowFloats.{WindowFloats}
 use Rattle.spec.specs.Lists.{places}
 use Rattle.lists.proofs.Zip.{zip-take, zip-drop}
-use Rattle.clahe.proofs.Cells.{places-length, places-at}
 use Rattle.spec.specs.Pixels.{pixel, pixels}
+use Rattle.lists.proofs.Places.{from-length, places-at}
 use Rattle.clahe.specs.Band.{normal_in, normal_pixels}
 
 module _ {A : Type 0} {B : Type 0} (f : A → B) where
@@ -23,21 +21,6 @@ module _ {A : Type 0} {B : Type 0} (f : A → B) where
   map-drop (suc n) [] = refl
   map-drop (suc n) (x ∷ xs) = map-drop n xs
 
-module _ {A : Type 0} {B : Type 0} {C : Type 0} (f : A → B → C) where
-  pub zip_length : (xs : List A) (ys : List B) → length xs ≡ length ys → length (zip_with f xs ys) ≡ length ys
-  unfolding zip_with
-  zip_length [] [] e = refl
-  zip_length [] (y ∷ ys) e = e
-  zip_length (x ∷ xs) [] e = refl
-  zip_length (x ∷ xs) (y ∷ ys) e = ap suc (zip_length xs ys (suc_inj e))
-
-  pub zip-at : (a : A) (b : B) (c : C) (xs : List A) (ys : List B) (k : ℕ) → k < length xs → k < length ys → get_or (zip_with f xs ys) k c ≡ f (get_or xs k a) (get_or ys k b)
-  unfolding zip_with
-  zip-at a b c [] ys k g h = absurd (not-suc-le-zero g)
-  zip-at a b c (x ∷ xs) [] k g h = absurd (not-suc-le-zero h)
-  zip-at a b c (x ∷ xs) (y ∷ ys) zero g h = refl
-  zip-at a b c (x ∷ xs) (y ∷ ys) (suc k) g h = zip-at a b c xs ys k (le_of_suc-le-suc g) (le_of_suc-le-suc h)
-
 -- the n elements from a on, as a slice has them, and a band of them
 abbrev pub part : {A : Type 0} → ℕ → ℕ → List A → List A
 part a n xs = take (a + n - a) (drop a xs)
@@ -47,9 +30,6 @@ part_length a n xs h = simp (length-take, length-drop) (omega arith)
 
 part_is : {A : Type 0} (a n : ℕ) (xs : List A) → part a n xs ≡ take n (drop a xs)
 part_is a n xs = let e : a + n - a ≡ n = omega arith in ap (λ (m : ℕ). take m (drop a xs)) e
-
-pub part_at : {A : Type 0} (a n : ℕ) (d : A) (xs : List A) (k : ℕ) → k < n → get_or (part a n xs) k d ≡ get_or xs (a + k) d
-part_at a n d xs k h = get_or-take (a + n - a) (drop a xs) k d (omega arith) ∙ get_or-drop a xs k d
 
 -- a band of the n pixels of another from a on
 abbrev pub Part : ℕ → ℕ → Band → Band → Type 0
@@ -77,13 +57,23 @@ module _ {A : Type 0} (d : A) (a : ℕ) (xs ys zs : List A) (h : a ≤ length xs
   put-inside j l =
       ap (λ (n : ℕ). get_or (take a xs ++ (ys ++ zs)) (n + j) d) (sym (length-take-le a xs h)) ∙ get_or-append-add (take a xs) (ys ++ zs) j d ∙ get_or-append ys zs d j l
 
+-- and what stands behind it, where the part is as long as what it replaces
+pub put-after : {A : Type 0} (d : A) (a n : ℕ) (xs ys : List A) → a + n ≤ length xs → length ys ≡ n → (j : ℕ) → a + n ≤ j → get_or (take a xs ++ (ys ++ drop n (drop a xs))) j d ≡ get_or xs j d
+put-after d a n xs ys h e j l =
+    let i = j - (a + n) in
+    let zs = drop n (drop a xs) in
+    let s : j ≡ length (take a xs) + (length ys + i) = omega (arith, e, length-take-le a xs (omega arith)) in
+    let t : a + (n + i) ≡ j = omega arith in
+    ap (λ (k : ℕ). get_or (take a xs ++ (ys ++ zs)) k d) s ∙ get_or-append-add (take a xs) (ys ++ zs) (length ys + i) d
+    ∙ get_or-append-add ys zs i d ∙ get_or-drop n (drop a xs) i d ∙ get_or-drop a xs (n + i) d ∙ ap (λ (k : ℕ). get_or xs k d) t
+
 -- a list of tables, 256 places each, with table k put in
 pub put_table : (g : ℕ → ℕ → Float) (xs ys zs : List Float) (k : ℕ) → k * 256 ≤ length xs → ys ≡ map (g k) (places 256)
     → ((j b : ℕ) → j < k → b < 256 → get_or xs (j * 256 + b) nan ≡ g j b) → (j b : ℕ) → j < k + 1 → b < 256 → get_or (take (k * 256) xs ++ (ys ++ zs)) (j * 256 + b) nan ≡ g j b
 put_table g xs ys zs k h e all j b l m = go j l b m
   where
     size : length ys ≡ 256
-    size = ap length e ∙ length-map (places 256) (g k) ∙ places-length 0 256
+    size = ap length e ∙ length-map (places 256) (g k) ∙ from-length 0 256
 
     go : (j : ℕ) → j < k + 1 → (b : ℕ) → b < 256 → get_or (take (k * 256) xs ++ (ys ++ zs)) (j * 256 + b) nan ≡ g j b
     go =

@@ -10,10 +10,7 @@ use Rattle.spec.specs.Floats.{zero64, one64, clamp_float, round_as_u64}
 use Rattle.spec.specs.Value.{full8}
 use Rattle.spec.specs.Gamma.{BitDepth, U8, U16, full_of}
 use Rattle.spec.specs.Clahe.{level_of}
-
-unit : T (le zero64 one64)
-unfolding le of_bits
-unit = tt
+use Rattle.clahe.specs.Within.{InUnit}
 
 -- the scale of a depth
 pub record Scale (full : Float) : Type 0 where
@@ -26,20 +23,16 @@ unfolding le mul of_bits
 scale U8 = record { above = tt; least = tt; most = tt }
 scale U16 = record { above = tt; least = tt; most = tt }
 
-module _ {full : Float} (s : Scale full) where
-  scaled_low : (v : Float) → T (le zero64 (mul binary64 (clamp_float zero64 one64 v) full))
-  scaled_low v =
-      le_trans' zero64 (mul binary64 zero64 full) (mul binary64 (clamp_float zero64 one64 v) full) s.least
-      (mul-le binary64 full s.above zero64 (clamp_float zero64 one64 v) (clamped_lo v zero64 one64 unit))
+pub unheld_within : {full : Float} (s : Scale full) (z : Float) → InUnit z → T (le zero64 (mul binary64 z full)) × T (le (mul binary64 z full) full)
+unheld_within {full} s z u = (
+  le_trans' zero64 (mul binary64 zero64 full) (mul binary64 z full) s.least (mul-le binary64 full s.above zero64 z u.0),
+  le_trans' (mul binary64 z full) (mul binary64 one64 full) full (mul-le binary64 full s.above z one64 u.1) s.most,
+)
 
-  scaled_high : (v : Float) → T (le (mul binary64 (clamp_float zero64 one64 v) full) full)
-  unfolding of_bits
-  scaled_high v =
-      le_trans' (mul binary64 (clamp_float zero64 one64 v) full) (mul binary64 one64 full) full
-      (mul-le binary64 full s.above (clamp_float zero64 one64 v) one64 (clamped_hi v zero64 one64 tt)) s.most
-
-  pub scaled_within : (v : Float) {x f : Float} → x ≡ clamp_float zero64 one64 v → f ≡ full → T (le zero64 (mul binary64 x f)) × T (le (mul binary64 x f) full)
-  scaled_within v d e = rw (d, e) (scaled_low v, scaled_high v)
+-- what clamps to 0..1 give
+pub held_unit : (z : Float) → InUnit (clamp_float zero64 one64 z)
+unfolding of_bits le
+held_unit z = (clamped_lo z zero64 one64 tt, clamped_hi z zero64 one64 tt)
 
 -- ---- the level
 
@@ -55,4 +48,4 @@ round_as_u64_255 x l h =
 
 pub level_of_lem : (u : Float) (n : ℕ) → n ≡ round_as_u64 (mul binary64 (clamp_float zero64 one64 u) full8) → (n ≡ level_of u) × (n < 256)
 unfolding level_of
-level_of_lem u n e = let h = round_as_u64_255 (mul binary64 (clamp_float zero64 one64 u) full8) (scaled_low (scale U8) u) (scaled_high (scale U8) u) in (omega arith, omega arith)
+level_of_lem u n e = let r = unheld_within (scale U8) (clamp_float zero64 one64 u) (held_unit u) in let h = round_as_u64_255 (mul binary64 (clamp_float zero64 one64 u) full8) r.0 r.1 in (omega arith, omega arith)

@@ -4,13 +4,15 @@ use mathlib.Core.List.{flat_map, map-append}
 use native.Mathlib.Nat.{sub-zero}
 use lib.Ieee.{Float}
 use Rattle.lists.proofs.Counts.{Below, counts-from_cells, stored_more, counts-sum}
+use Rattle.raster.specs.declared.band.Raster.{Raster}
 use Rattle.spec.specs.Lists.{places_from, counts, count_of, stored, sum_of}
 use Rattle.spec.specs.Pixels.{Pixel, off, on, valid_of}
 use Rattle.spec.specs.Clahe.{tile_start, tile_size, tile_pixels, tile_counts, level_of}
 use Rattle.clahe.specs.Band.{levels}
 use Rattle.clahe.specs.Limits.{ValidFewer}
-use Rattle.clahe.proofs.Whole.{next_times, times_most}
+use Rattle.clahe.proofs.Whole.{times_most}
 use Rattle.lists.proofs.Counts.{stored-append, stored-most}
+use Rattle.lists.proofs.Places.{next_times}
 use Rattle.clahe.proofs.Rows.{Most}
 
 -- ---- where it lies
@@ -36,6 +38,18 @@ pub tile_row : (rows cols ty tx top height left width r : ℕ) → top ≡ tile_
     → r < height → (width ≡ 0 → ⊥) → (top + r) * cols + left + width ≤ rows * cols
 tile_row rows cols ty tx top height left width r a b c d h z =
     row_inside (top + r) rows cols left width (omega (arith, tile_inside rows ty r (omega arith))) (omega (arith, z, tile_end cols tx (omega (arith, z))))
+
+-- and the raster has no more than 4,096 by 4,096 pixels
+pub row_within : (s : Raster) {top height left width : ℕ} (ty tx r : ℕ) → top ≡ tile_start s.sides.rows ty → height ≡ tile_size s.sides.rows ty → left ≡ tile_start s.sides.cols tx → width ≡ tile_size s.sides.cols tx
+    → r < height → (width ≡ 0 → ⊥)
+    → ((top + r) * s.sides.cols + left + width ≤ s.sides.rows * s.sides.cols) × (s.sides.rows * s.sides.cols ≤ 16777216) × (length s.band.db.now ≡ s.sides.rows * s.sides.cols) × (width ≤ 4096) × (top + r < 4096)
+row_within s {top} {height} {left} {width} ty tx r a b c d h z = (
+  tile_row s.sides.rows s.sides.cols ty tx top height left width r a b c d h z,
+  times_most s.sides.rows s.sides.cols 4096 4096 s.small.0 s.small.1,
+  s.sized,
+  omega (arith, d, tile_most s.sides.cols tx, s.small.1),
+  omega (arith, a, tile_inside s.sides.rows ty r (omega (arith, b)), s.small.0),
+)
 
 -- ---- levels
 

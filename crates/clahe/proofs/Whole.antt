@@ -1,5 +1,5 @@
 -- Whole numbers: those that are floats exactly, products that fit, and what a cast to 32 bits gives. Assumes nothing.
-use Rattle.std.proofs.Common.{◌≡◌, ℕ, ◌+◌, ◌-◌, ◌*◌, ◌/◌, ◌^◌, ◌≤◌, min, true, false, T, pos, refl, ap, ◌∙◌, add-mul, mul-le-mul, one-mul, arith, le→leb}
+use Rattle.std.proofs.Common.{◌≡◌, ℕ, ◌-◌, ◌*◌, ◌/◌, ◌^◌, ◌≤◌, min, true, false, T, pos, refl, mul-le-mul, arith, le→leb}
 use lib.Ieee.{Float, nan, inf, fin, binary64, up, down, in_float, to_unsigned}
 
 pub whole_in_float : (n : ℕ) → n ≤ 2 ^ 53 → T (in_float binary64 (pos n))
@@ -8,9 +8,6 @@ whole_in_float n h = le→leb n (2 ^ 53) h
 
 pub times_most : (a b m n : ℕ) → a ≤ m → b ≤ n → a * b ≤ m * n
 times_most a b m n h k = mul-le-mul {n₁ = a} {m₁ = b} {n₂ = m} {m₂ = n} h k
-
-pub next_times : (k n : ℕ) → (k + 1) * n ≡ k * n + n
-next_times k n = add-mul k 1 n ∙ ap (λ (m : ℕ). k * n + m) (one-mul n)
 
 least_cut : (a : ℕ) → min (min a (2 ^ 64 - 1)) (2 ^ 32 - 1) ≡ min a (2 ^ 32 - 1)
 least_cut a = omega arith

@@ -1,12 +1,13 @@
 #![tactic(auto)]
 // Contrast limited equalisation of a band, tile by tile: `clahe_equalize_normalized` for 8 by 8 tiles, 256 bins and limit 2.0.
+mod held; // held.rt: a value held to 0.0..1.0
 pub mod tiles; // tiles.rt: where the tiles of a side lie, and which sides are refused
-pub mod counts; // counts.rt: how many valid pixels of a tile stand at each level
+pub mod counts; // counts.rt: how many valid pixels of a tile stand at each level, and the level of each pixel
 pub mod clip; // clip.rt: a tile's counts after clipping
 pub mod sums; // sums.rt: the tiles' running sums
-pub mod sampling; // sampling.rt: the position of a row or a column among the tiles, and the sum there
+pub mod sampling; // sampling.rt: the position of a row or a column among the tiles, the two rows of tiles around a row, and the sum there
 pub mod columns; // columns.rt: the positions of all columns, worked out once a picture
-mod paint; // paint.rt: the values of pixels from the tiles' sums, row by row
+mod paint; // paint.rt: the values of pixels from the tiles' sums, row by row, each in place of its level
 
 ghost use Rattle.std.specs.Prelude.{◌≡◌, ◌*◌, map, length};
 ghost use Rattle.raster.specs.Bands.{pixels_of};
@@ -21,7 +22,8 @@ use raster::Raster;
 use sums::write_tables;
 use types::WindowFloats;
 
-// The values of a raster from its window, before any stretch. The work list is left with the tiles' sums.
+// The values of a raster from its window, before any stretch: first each pixel's level, in the output, then its value in place of it.
+// The work list is left with the tiles' sums.
 pub fn clahe_values<D: Depth>(
     raster: &Raster,
     window: WindowFloats,
@@ -35,13 +37,14 @@ pub fn clahe_values<D: Depth>(
     let Ok(work) = <&mut [f64; 16384]>::try_from(work) else {
         return;
     };
-    write_tables(raster, window, work);
+    write_tables(raster, window, work, out);
     // Kept: a list of the greatest length, since there is no heap.
     let mut room = [Column {
         first: 0,
+        second: 0,
         weight: 0.0,
     }; 4096];
     let columns = &mut room[..raster.sides.cols];
     column_positions(columns);
-    shades(raster, window, work, columns, out);
+    shades(raster, work, columns, out);
 }

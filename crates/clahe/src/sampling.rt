@@ -1,12 +1,12 @@
-// The position of a row or a column among the tiles, and the sum there.
+// The position of a row or a column among the tiles, the two rows of tiles around a row, and the sum there.
 // Kept: `Among y` is a clause where a position is read; as a ghost field of `TilePosition` its proof would stand in spec/specs/Clahe, whose definition makes one.
-ghost use Rattle.std.specs.Prelude.{◌≡◌, ◌<◌, ◌≤◌};
+ghost use Rattle.std.specs.Prelude.{◌≡◌, ◌<◌, ◌≤◌, length};
 ghost use Rattle.std.specs.Float.{binary64};
 ghost use Rattle.std.specs.Float.Ieee.{sub};
-ghost use Rattle.clahe.specs.Work.{Among, sum_in, sampled};
+ghost use Rattle.clahe.specs.Work.{Among, ColumnAmong, tiles_row, sum_in, sampled};
 ghost use Rattle.spec.specs.Clahe as Clahe;
 
-use super::columns::{Column, next_tile};
+use super::columns::Column;
 use numeric::Binary;
 use types::TilePosition;
 
@@ -41,30 +41,60 @@ fn blend(weight: f64, a: f64, b: f64) -> f64
     a * (1.0 - weight) + b * weight
 }
 
-// The sum at bin b of the tile in row ty and column tx of tiles.
-// Kept: the caller of the archive lends the work as one list, so the place is counted here.
-fn sum_in(work: &[f64; 16384], ty: usize, tx: usize, b: usize) -> f64
-    requires { (ty < 8) × (tx < 8) × (b < 256) }
-    ensures { result ≡ sum_in work.now ty tx b }
+// Where a row lies among the tiles: the sums of the two rows of tiles around it, and the weight of the second.
+#[derive(Clone, Copy)]
+pub struct Row<'a> {
+    pub top: &'a [f64],
+    pub bottom: &'a [f64],
+    pub weight: f64,
+    pub ghost long: { (length top.now ≡ 2048) × (length bottom.now ≡ 2048) },
+}
+
+// The sums of a row of tiles.
+// Kept: the caller of the archive lends the work as one list, so the places are counted here.
+fn tiles_row(work: &[f64; 16384], ty: usize) -> &[f64]
+    requires { ty < 8 }
+    ensures { result.now ≡ tiles_row work.now ty }
 {
-    work[(ty * 8 + tx) * 256 + b]
+    let at = ty * 2048;
+    let end = at + 2048;
+    &work[at..end]
+}
+
+// The row at a position.
+pub fn row_at(work: &[f64; 16384], y: TilePosition) -> Row<'_>
+    requires { Among y }
+    ensures { (result.top.now ≡ tiles_row work.now y.first) × (result.bottom.now ≡ tiles_row work.now y.second) × (result.weight ≡ y.weight) }
+{
+    Row {
+        top: tiles_row(work, y.first),
+        bottom: tiles_row(work, y.second),
+        weight: y.weight,
+    }
+}
+
+// The sum at bin b of the tile whose sums begin at a place of a row of tiles.
+fn sum_in(tiles: &[f64], at: u32, b: u8) -> f64
+    requires { (length tiles.now ≡ 2048) × (at ≤ 1792) }
+    ensures { result ≡ sum_in tiles.now at b }
+{
+    tiles[at as usize + usize::from(b)]
 }
 
 // The sum at bin b, from the four tiles around.
-pub fn sample(work: &[f64; 16384], y: TilePosition, x: Column, b: usize) -> f64
-    requires { Among y × (x.first < 8) × (b < 256) }
-    ensures { result ≡ sampled work.now y x b }
+pub fn sample(row: &Row, x: Column, b: u8) -> f64
+    requires { ColumnAmong x }
+    ensures { result ≡ sampled row.now.top.now row.now.bottom.now row.now.weight x b }
 {
-    let next = next_tile(x.first);
     let top = blend(
         x.weight,
-        sum_in(work, y.first, x.first, b),
-        sum_in(work, y.first, next, b),
+        sum_in(row.top, x.first, b),
+        sum_in(row.top, x.second, b),
     );
     let bottom = blend(
         x.weight,
-        sum_in(work, y.second, x.first, b),
-        sum_in(work, y.second, next, b),
+        sum_in(row.bottom, x.first, b),
+        sum_in(row.bottom, x.second, b),
     );
-    blend(y.weight, top, bottom)
+    blend(row.weight, top, bottom)
 }

@@ -3,7 +3,10 @@ ghost use Rattle.std.specs.Prelude.{◌<◌};
 
 use super::record::{List, Record};
 use super::steps::is_same;
-use clahe::columns::Column;
+use clahe::columns::column_at;
+use clahe::counts::level_of;
+use clahe::sampling::{row_at, sample, tile_position};
+use clahe::tiles::tile_side;
 use raster::Raster;
 use std::alloc::{AllocError, Global};
 use types::{Sides, WindowFloats};
@@ -52,35 +55,34 @@ pub(crate) fn tile_agrees(alloc: Global, record: Record<'_>) -> Result<bool, All
 }
 
 // The equalised value of the pixel in row r and column c, from the sums of all tiles.
-#[tactic(auto, using(clahe::proofs::Positions::among_of))]
 fn equalised(work: &[f64; 16384], raster: &Raster, r: usize, c: usize, u: f64) -> f64
     requires { (r < raster.now.sides.rows) × (c < raster.now.sides.cols) }
 {
     let sides = raster.sides;
-    let y = clahe::sampling::tile_position(clahe::tiles::tile_side(sides.rows), r);
-    let x = clahe::sampling::tile_position(clahe::tiles::tile_side(sides.cols), c);
-    clahe::sampling::sample(work, y, Column::from(x), clahe::counts::level_of(u))
+    let y = tile_position(tile_side(sides.rows), r);
+    let x = tile_position(tile_side(sides.cols), c);
+    sample(&row_at(work, y), column_at(x), level_of(u))
 }
 
-// Whether tile k of normalised values has those sums.
-fn has_tile(raster: &Raster, k: usize, expected: &[f64]) -> bool {
-    if k >= 64 {
+// Whether tile k of normalised values has those sums. The levels of its pixels are left in the list.
+fn has_tile(raster: &Raster, k: usize, levels: &mut [u8], expected: &[f64]) -> bool {
+    if k >= 64 || levels.len() != raster.band.db.len() {
         return false;
     }
     let mut sums = [0.0; 256];
-    clahe::sums::tile_sums(raster, UNIT, k, &mut sums);
+    clahe::sums::tile_sums(raster, UNIT, k, &mut sums, levels);
     are_same(&sums, expected)
 }
 
 // Whether normalised values have those values once they are equalised; invalid ones are 0.
-fn is_equalised(raster: &Raster, expected: &[f64]) -> bool {
+fn is_equalised(raster: &Raster, levels: &mut [u8], expected: &[f64]) -> bool {
     let band = raster.band;
     let sides = raster.sides;
-    if expected.len() != band.db.len() {
+    if expected.len() != band.db.len() || levels.len() != band.db.len() {
         return false;
     }
     let mut work = [0.0; 16384];
-    clahe::sums::write_tables(raster, UNIT, &mut work);
+    clahe::sums::write_tables(raster, UNIT, &mut work, levels);
     // Kept: by places. Each pixel needs its row and its column, so that rows of three lists, zipped and counted twice, are no plainer.
     for r in 0..sides.rows {
         for c in 0..sides.cols {
@@ -130,12 +132,11 @@ pub(crate) fn tiles_agree(alloc: Global, record: Record<'_>) -> Result<bool, All
         return Ok(false);
     };
     let expected: Vec<f64> = expected.collect(alloc)?;
+    let mut levels = vec![in alloc; 0u8; db.len()]?;
     let sums = expected.chunks(256);
     Ok(
         tiles.count == sums.len()
-            && tiles
-                .zip(sums)
-                .all(|(k, sums)| has_tile(&raster, k as usize, sums)),
+            && tiles.zip(sums).all(|(k, sums)| has_tile(&raster, k as usize, &mut levels, sums)),
     )
 }
 
@@ -151,5 +152,6 @@ pub(crate) fn pixels_agree(alloc: Global, record: Record<'_>) -> Result<bool, Al
         return Ok(false);
     };
     let expected: Vec<f64> = expected.collect(alloc)?;
-    Ok(is_equalised(&raster, &expected))
+    let mut levels = vec![in alloc; 0u8; db.len()]?;
+    Ok(is_equalised(&raster, &mut levels, &expected))
 }

@@ -5,4 +5,4 @@ use Rattle.clahe.proofs.InPlace.{Turned}
 use Rattle.clahe.proofs.clip.clip_bins.Given as goal
 
 abbrev pub invariant-loop-h : goal.invariant-loop-h
-invariant-loop-h l = (l.h-index ≤ 256) × Turned (λ k h. clipped l.limit h) l.initial.hist l.h-index l.hist
+invariant-loop-h l = (l.h-index ≤ 256) × Turned 0 (λ k h. clipped l.limit h) l.initial.hist l.h-index l.hist

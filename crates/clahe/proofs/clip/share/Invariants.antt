@@ -4,4 +4,4 @@ use Rattle.clahe.proofs.InPlace.{Turned}
 use Rattle.clahe.proofs.clip.share.Given as goal
 
 abbrev pub invariant-loop-b : goal.invariant-loop-b
-invariant-loop-b l = (l.b ≤ 256) × Turned (λ k h. h + l.each + cond (ltb k l.rest) 1 0) l.initial.hist l.b l.hist
+invariant-loop-b l = (l.b ≤ 256) × Turned 0 (λ k h. h + l.each + cond (ltb k l.rest) 1 0) l.initial.hist l.b l.hist

@@ -1,29 +1,18 @@
--- `clahe::counts::count_tile` meets its contract. The invariant: the rows that are left, added to the counts so far, give the whole tile. Assumes nothing.
-use Rattle.std.proofs.Common.{◌≡◌, ℕ, ◌+◌, ◌*◌, ◌<◌, ◌≤◌, List, length, get_or, drop, sym, ap, ◌∙◌, subst, arith}
-use Rattle.raster.specs.declared.band.Raster.{Raster}
+-- `clahe::counts::count_tile` meets its contract. The invariant: the rows that are left, added to the counts so far, give the whole tile; the levels of the
+-- rows before r are in their places. Assumes nothing.
+use Rattle.std.proofs.Common.{rules, ℕ, ◌+◌, ◌*◌, ◌≤◌, List, map, length, get_or, take, drop, sym, ap, ◌∙◌, subst, arith}
 use Rattle.spec.specs.Lists.{stored}
 use Rattle.spec.specs.Pixels.{Pixel}
-use Rattle.spec.specs.Clahe.{tile_start, tile_size}
-use Rattle.clahe.specs.Band.{normal_pixels, levels}
-use Rattle.clahe.proofs.Whole.{times_most}
-use Rattle.clahe.proofs.Tiling.{Rest, row_of, tile_row, tile_most, row_most, rest_next, rest_end, tile_start_of, tile_narrow, tile_counts_lem, tile_inside}
-use Rattle.clahe.proofs.Parts.{band_length, part_pixels}
+use Rattle.spec.specs.Clahe.{tile_size}
+use Rattle.clahe.specs.Band.{normal_pixels, levels, level_at}
+use Rattle.clahe.proofs.Tiling.{Rest, row_of, row_most, rest_next, rest_end, tile_start_of, tile_narrow, tile_counts_lem, row_within}
+use Rattle.clahe.proofs.Levels.{pixels_length}
+use Rattle.clahe.proofs.Filled.{here, row_levels, filled_none, filled_next, filled_all}
+use Rattle.clahe.proofs.Parts.{part_length, band_length, part_pixels}
 use Rattle.clahe.proofs.counts.count_tile.Goals as goal
 
--- the row that is counted lies in the raster, which has no more than 4,096 by 4,096 pixels
-inside : (s : Raster) {top height left width : ℕ} (ty tx r : ℕ) → top ≡ tile_start s.sides.rows ty → height ≡ tile_size s.sides.rows ty → left ≡ tile_start s.sides.cols tx → width ≡ tile_size s.sides.cols tx
-    → r < height → (width ≡ 0 → ⊥)
-    → ((top + r) * s.sides.cols + left + width ≤ s.sides.rows * s.sides.cols) × (s.sides.rows * s.sides.cols ≤ 16777216) × (length s.band.db.now ≡ s.sides.rows * s.sides.cols) × (width ≤ 4096) × (top + r < 4096)
-inside s {top} {height} {left} {width} ty tx r a b c d h z = (
-  tile_row s.sides.rows s.sides.cols ty tx top height left width r a b c d h z,
-  times_most s.sides.rows s.sides.cols 4096 4096 s.small.0 s.small.1,
-  s.sized,
-  omega (arith, d, tile_most s.sides.cols tx, s.small.1),
-  omega (arith, a, tile_inside s.sides.rows ty r (omega (arith, b)), s.small.0),
-)
-
-pub returns-then-width-eq0 : goal.returns-then-width-eq0
-returns-then-width-eq0 c =
+pub returns-then-width-eq0-clause-counts : goal.returns-then-width-eq0-clause-counts
+returns-then-width-eq0-clause-counts g c =
     let a = c.args in
     let s = a.raster.now in
     let px = normal_pixels a.window s.band in
@@ -31,8 +20,17 @@ returns-then-width-eq0 c =
     c.tile_start-left.ensures c.tile_size-width.ensures c.if-width-eq0.true)
     ∙ tile_counts_lem s.sides.rows s.sides.cols px a.ty a.tx a.hist.now (omega arith) c.requires.empty
 
+pub returns-then-width-eq0-clause-levels : goal.returns-then-width-eq0-clause-levels
+returns-then-width-eq0-clause-levels g c =
+    let a = c.args in
+    let s = a.raster.now in
+    let px = normal_pixels a.window s.band in
+    let of = g.D.Depth.of in
+    filled_all s.sides.rows s.sides.cols a.ty a.tx of px a.out.now c.requires.tile.1 0 a.out.now c.requires.sized (filled_none s.sides.rows s.sides.cols a.ty a.tx of px a.out.now c.requires.tile.1)
+    (λ i h e. let p = here s.sides.rows s.sides.cols a.ty a.tx c.requires.tile.1 i h e in absurd (omega (arith, p, c.tile_size-width.ensures, c.if-width-eq0.true)))
+
 pub loop-r-init : goal.loop-r-init
-loop-r-init c =
+loop-r-init g c =
     let a = c.args in
     let s = a.raster.now in
     let px = normal_pixels a.window s.band in (
@@ -40,32 +38,46 @@ loop-r-init c =
       (λ k. omega (arith, c.requires.empty k)),
       tile_start_of s.sides.rows s.sides.cols px a.ty a.tx a.hist.now _ _ _ _ c.tile_start-top.ensures c.tile_size-height.ensures
           c.tile_start-left.ensures c.tile_size-width.ensures,
+      filled_none s.sides.rows s.sides.cols a.ty a.tx g.D.Depth.of px a.out.now c.requires.tile.1,
     )
 
 pub overflow_add-at : goal.overflow_add-at
-overflow_add-at c = omega (arith, inside c.args.raster.now c.args.ty c.args.tx c.loop-r.r c.tile_start-top.ensures c.tile_size-height.ensures c.tile_start-left.ensures c.tile_size-width.ensures c.loop-r-test.true c.if-width-eq0.false)
+overflow_add-at g c = omega (arith, row_within c.args.raster.now c.args.ty c.args.tx c.loop-r.r c.tile_start-top.ensures c.tile_size-height.ensures c.tile_start-left.ensures c.tile_size-width.ensures c.loop-r-test.true c.if-width-eq0.false)
 
 pub overflow_mul-at : goal.overflow_mul-at
-overflow_mul-at c = omega (arith, inside c.args.raster.now c.args.ty c.args.tx c.loop-r.r c.tile_start-top.ensures c.tile_size-height.ensures c.tile_start-left.ensures c.tile_size-width.ensures c.loop-r-test.true c.if-width-eq0.false)
+overflow_mul-at g c = omega (arith, row_within c.args.raster.now c.args.ty c.args.tx c.loop-r.r c.tile_start-top.ensures c.tile_size-height.ensures c.tile_start-left.ensures c.tile_size-width.ensures c.loop-r-test.true c.if-width-eq0.false)
 
 pub overflow_add-at-in-loop-r : goal.overflow_add-at-in-loop-r
-overflow_add-at-in-loop-r c = omega (arith, inside c.args.raster.now c.args.ty c.args.tx c.loop-r.r c.tile_start-top.ensures c.tile_size-height.ensures c.tile_start-left.ensures c.tile_size-width.ensures c.loop-r-test.true c.if-width-eq0.false)
+overflow_add-at-in-loop-r g c = omega (arith, row_within c.args.raster.now c.args.ty c.args.tx c.loop-r.r c.tile_start-top.ensures c.tile_size-height.ensures c.tile_start-left.ensures c.tile_size-width.ensures c.loop-r-test.true c.if-width-eq0.false)
 
 pub overflow_add-end : goal.overflow_add-end
-overflow_add-end c = omega (arith, inside c.args.raster.now c.args.ty c.args.tx c.loop-r.r c.tile_start-top.ensures c.tile_size-height.ensures c.tile_start-left.ensures c.tile_size-width.ensures c.loop-r-test.true c.if-width-eq0.false)
+overflow_add-end g c = omega (arith, row_within c.args.raster.now c.args.ty c.args.tx c.loop-r.r c.tile_start-top.ensures c.tile_size-height.ensures c.tile_start-left.ensures c.tile_size-width.ensures c.loop-r-test.true c.if-width-eq0.false)
 
 pub part-row-requires : goal.part-row-requires
-part-row-requires c = let h = inside c.args.raster.now c.args.ty c.args.tx c.loop-r.r c.tile_start-top.ensures c.tile_size-height.ensures c.tile_start-left.ensures c.tile_size-width.ensures c.loop-r-test.true c.if-width-eq0.false in (omega arith, omega (arith, h))
+part-row-requires g c = let h = row_within c.args.raster.now c.args.ty c.args.tx c.loop-r.r c.tile_start-top.ensures c.tile_size-height.ensures c.tile_start-left.ensures c.tile_size-width.ensures c.loop-r-test.true c.if-width-eq0.false in (omega arith, omega (arith, h))
 
-pub count_row-requires : goal.count_row-requires
-count_row-requires c =
-    let h = inside c.args.raster.now c.args.ty c.args.tx c.loop-r.r c.tile_start-top.ensures c.tile_size-height.ensures c.tile_start-left.ensures c.tile_size-width.ensures c.loop-r-test.true c.if-width-eq0.false in record {
-      short = omega (arith, h, band_length ((c.tile_start-top.result + c.loop-r.r) * c.args.raster.now.sides.cols + c.tile_start-left.result) c.tile_size-width.result c.args.raster.now.band c.part-row.result c.part-row.ensures (omega (arith, h)));
-      few = λ k. omega (arith, c.loop-r.invariant.1 k);
-    }
+pub offset_bounds-out-at : goal.offset_bounds-out-at
+offset_bounds-out-at g c =
+    let h = row_within c.args.raster.now c.args.ty c.args.tx c.loop-r.r c.tile_start-top.ensures c.tile_size-height.ensures c.tile_start-left.ensures c.tile_size-width.ensures c.loop-r-test.true c.if-width-eq0.false in
+    let b : (c.tile_start-top.result + c.loop-r.r) * c.args.raster.now.sides.cols + c.tile_start-left.result ≤ length c.loop-r.out = omega (arith, h, c.requires.sized, c.loop-r.invariant.3.size) in search rules
+
+pub slice_bounds-count_row-end : goal.slice_bounds-count_row-end
+slice_bounds-count_row-end g c =
+    let h = row_within c.args.raster.now c.args.ty c.args.tx c.loop-r.r c.tile_start-top.ensures c.tile_size-height.ensures c.tile_start-left.ensures c.tile_size-width.ensures c.loop-r-test.true c.if-width-eq0.false in
+    let b : (c.tile_start-top.result + c.loop-r.r) * c.args.raster.now.sides.cols + c.tile_start-left.result + c.tile_size-width.result ≤ length c.loop-r.out = omega (arith, h, c.requires.sized, c.loop-r.invariant.3.size) in search rules
+
+pub count_row-requires-clause-sized : goal.count_row-requires-clause-sized
+count_row-requires-clause-sized g c =
+    let h = row_within c.args.raster.now c.args.ty c.args.tx c.loop-r.r c.tile_start-top.ensures c.tile_size-height.ensures c.tile_start-left.ensures c.tile_size-width.ensures c.loop-r-test.true c.if-width-eq0.false in
+    let at = (c.tile_start-top.result + c.loop-r.r) * c.args.raster.now.sides.cols + c.tile_start-left.result in
+    let n = band_length at c.tile_size-width.result c.args.raster.now.band c.part-row.result c.part-row.ensures (omega (arith, h)) in
+    (omega (arith, h, n), part_length at c.tile_size-width.result c.loop-r.out (omega (arith, h, c.requires.sized, c.loop-r.invariant.3.size)) ∙ sym n)
+
+pub count_row-requires-clause-few : goal.count_row-requires-clause-few
+count_row-requires-clause-few g c = let h = row_within c.args.raster.now c.args.ty c.args.tx c.loop-r.r c.tile_start-top.ensures c.tile_size-height.ensures c.tile_start-left.ensures c.tile_size-width.ensures c.loop-r-test.true c.if-width-eq0.false in λ k. omega (arith, h, c.loop-r.invariant.1 k)
 
 pub loop-r-preserved : goal.loop-r-preserved
-loop-r-preserved c =
+loop-r-preserved g c =
     let a = c.args in
     let s = a.raster.now in
     let px = normal_pixels a.window s.band in
@@ -76,19 +88,33 @@ loop-r-preserved c =
     let r = c.loop-r.r in
     let at = (top + r) * s.sides.cols + left in
     let f = row_of s.sides.cols px left width in
-    let in_raster = inside c.args.raster.now c.args.ty c.args.tx c.loop-r.r c.tile_start-top.ensures c.tile_size-height.ensures c.tile_start-left.ensures c.tile_size-width.ensures c.loop-r-test.true c.if-width-eq0.false in
-    let new = c.count_row.ensures ∙ ap (λ (ps : List Pixel). stored c.loop-r.hist (levels ps)) (part_pixels a.window at width s.band c.part-row.result c.part-row.ensures) in (
+    let in_raster = row_within c.args.raster.now c.args.ty c.args.tx c.loop-r.r c.tile_start-top.ensures c.tile_size-height.ensures c.tile_start-left.ensures c.tile_size-width.ensures c.loop-r-test.true c.if-width-eq0.false in
+    let row = part_pixels a.window at width s.band c.part-row.result c.part-row.ensures in
+    let new = c.count_row.ensures.counts ∙ ap (λ (ps : List Pixel). stored c.loop-r.hist (levels ps)) row in
+    let n = tile_size s.sides.cols a.tx in
+    let kept = c.count_row.ensures.levels ∙ ap (λ (ps : List Pixel). map g.D.Depth.of (map level_at ps)) (row ∙ ap (λ (m : ℕ). take m (drop at px)) c.tile_size-width.ensures) in (
       omega arith,
       (λ k. subst (λ (h : List ℕ). get_or h k 0 ≤ (r + 1) * 4096) (sym new)
           (omega (arith, row_most c.loop-r.hist (r * 4096) width (drop at px) in_raster.3 c.loop-r.invariant.1 k))),
       c.loop-r.invariant.2 ∙ rest_next f top height c.loop-r.hist r (omega arith) ∙ ap (λ (h : List ℕ). Rest f top height h (r + 1)) (sym new),
+      filled_next s.sides.rows s.sides.cols a.ty a.tx g.D.Depth.of px a.out.now c.requires.tile.1 r (omega (arith, c.tile_size-height.ensures)) at _ c.loop-r.out _ c.loop-r.invariant.3 c.requires.sized
+          (cc (c.tile_start-top.ensures, c.tile_start-left.ensures)) (omega (arith, c.tile_size-width.ensures)) (omega (arith, in_raster, c.tile_size-width.ensures))
+          (row_levels s.sides.rows s.sides.cols a.ty a.tx g.D.Depth.of px a.out.now at _ (omega (arith, in_raster, c.tile_size-width.ensures, pixels_length a.window s.band)) kept),
     )
 
-pub returns : goal.returns
-returns c =
+pub returns-clause-counts : goal.returns-clause-counts
+returns-clause-counts g c =
     let a = c.args in
     let s = a.raster.now in
     let px = normal_pixels a.window s.band in
     let f = row_of s.sides.cols px c.tile_start-left.result c.tile_size-width.result in
     sym (rest_end f c.tile_start-top.result c.tile_size-height.result c.loop-r.hist c.loop-r.r (omega arith))
     ∙ sym c.loop-r.invariant.2 ∙ tile_counts_lem s.sides.rows s.sides.cols px a.ty a.tx a.hist.now (omega arith) c.requires.empty
+
+pub returns-clause-levels : goal.returns-clause-levels
+returns-clause-levels g c =
+    let a = c.args in
+    let s = a.raster.now in
+    let px = normal_pixels a.window s.band in
+    filled_all s.sides.rows s.sides.cols a.ty a.tx g.D.Depth.of px a.out.now c.requires.tile.1 c.loop-r.r c.loop-r.out c.requires.sized c.loop-r.invariant.3
+    (λ i h e. let p = here s.sides.rows s.sides.cols a.ty a.tx c.requires.tile.1 i h e in omega (arith, p, c.tile_size-height.ensures))

@@ -6,7 +6,8 @@ use Rattle.spec.specs.Clahe.{sum_at}
 use Rattle.spec.specs.Lists.{sum_of}
 use Rattle.clahe.proofs.Totals.{sum-take, sum-at}
 use Rattle.clahe.proofs.Whole.{whole_in_float}
-use Rattle.clahe.proofs.Cells.{kept_or_stored, from_places}
+use Rattle.clahe.proofs.Cells.{kept_or_stored}
+use Rattle.lists.proofs.Places.{from_places}
 use Rattle.clahe.proofs.sums.write_sums.Goals as goal
 
 pub int_to_float-sum_of : goal.int_to_float-sum_of

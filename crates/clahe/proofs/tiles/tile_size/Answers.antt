@@ -1,7 +1,7 @@
 -- `clahe::tiles::tile_size` meets its contract: the lesser of a side and of what is left. Assumes nothing.
 use Rattle.std.proofs.Common.{arith}
 use Rattle.spec.specs.Clahe.{tile_size, tile_side}
-use Rattle.clahe.proofs.Whole.{next_times}
+use Rattle.lists.proofs.Places.{next_times}
 use Rattle.clahe.proofs.tiles.tile_size.Goals as goal
 
 pub returns : goal.returns
