@@ -3,7 +3,7 @@
 use numeric::Binary;
 use std::fmt::{self, Display};
 use std::io;
-use types::{AutoscaleStrategy, Refusal, SyntheticRgbMode};
+use types::{AutoscaleStrategy, Refusal, SyntheticRgbMode, WindowAnswer};
 
 // ---- printing
 
@@ -68,12 +68,13 @@ fn statistics(rt: &impl Print) -> io::Result<()> {
 
 // ---- grey
 
-// A row of valid pixels in grey, by the call of one format, over what was in the list before.
+// A row of valid pixels in grey, by the call of one format with room for its work, over what was in the list before.
 fn grey<T, F, const N: usize>(
     rt: &impl Print,
     line: &str,
     call: F,
     strategy: AutoscaleStrategy,
+    work: &mut [f64],
     db: [f64; N],
     mut out: [T; N],
 ) -> io::Result<()>
@@ -90,7 +91,7 @@ where
     ) -> Result<(), Refusal>,
     requires { F.IsAlwaysCallable call }
 {
-    let answer = call(1, N, strategy, &db, &[1; N], &mut out, &mut [0.0; 16384]);
+    let answer = call(1, N, strategy, &db, &[1; N], &mut out, work);
     reply(rt, line, answer, Listed(&out))
 }
 
@@ -98,7 +99,7 @@ fn greys(rt: &impl Print) -> io::Result<()> {
     // The values 0 and high at 8 bits.
     let u8_grey = |line: &str, strategy: AutoscaleStrategy, high: f64| {
         let call = pipeline::autoscale_db_image_to_u8;
-        grey(rt, line, call, strategy, [0.0, high], [0xa5; 2])
+        grey(rt, line, call, strategy, &mut [0.0], [0.0, high], [0xa5; 2])
     };
     u8_grey(
         "dB 0, 10, Default, U8 grey",
@@ -110,6 +111,7 @@ fn greys(rt: &impl Print) -> io::Result<()> {
         "0, 0.5, Default, U16 grey",
         pipeline::autoscale_db_image_to_u16,
         AutoscaleStrategy::Default,
+        &mut [0.0],
         [0.0, 0.5],
         [0xa5a5; 2],
     )?;
@@ -119,6 +121,7 @@ fn greys(rt: &impl Print) -> io::Result<()> {
         "One pixel -12.5, Default, U8 grey",
         pipeline::autoscale_db_image_to_u8,
         AutoscaleStrategy::Default,
+        &mut [0.0],
         [-12.5],
         [0xa5; 1],
     )?;
@@ -146,7 +149,15 @@ fn greys(rt: &impl Print) -> io::Result<()> {
         AutoscaleStrategy::Standard,
         41.0,
     )?;
-    u8_grey("Clahe on one row", AutoscaleStrategy::Clahe, 1.0)
+    grey(
+        rt,
+        "Clahe on one row",
+        pipeline::autoscale_db_image_to_u8,
+        AutoscaleStrategy::Clahe,
+        &mut [0.0; 16384],
+        [0.0, 1.0],
+        [0xa5; 2],
+    )
 }
 
 // ---- windows
@@ -161,9 +172,9 @@ fn window(
     valid_mask: &[u8],
 ) -> io::Result<()> {
     match autoscale::autoscale_window(strategy, 1, cols, db, valid_mask) {
-        Ok(Some(window)) => println!(rt; "{line}: gamma {:?}", window.gamma),
-        Ok(None) => println!(rt; "{line}: blank"),
-        Err(refusal) => println!(rt; "{line}: {refusal}"),
+        WindowAnswer::Window { gamma, .. } => println!(rt; "{line}: gamma {gamma:?}"),
+        WindowAnswer::Blank => println!(rt; "{line}: blank"),
+        WindowAnswer::Refused(k) => println!(rt; "{line}: refused {k}"),
     }
 }
 

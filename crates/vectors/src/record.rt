@@ -1,9 +1,7 @@
-// The records of a file of vectors: what a record asks, and the numbers of its lists, their least significant bytes first.
-ghost use Rattle.std.specs.Prelude.{◌<◌, length, IfSome};
-ghost use Rattle.std.specs.Iterator.{at_most};
+// A record of a file of vectors: what it asks, and the numbers of its lists, their least significant bytes first. What a record has not is read as 0.
+ghost use Rattle.std.specs.Prelude.{◌≤◌};
 
 use numeric::Binary;
-use std::marker::PhantomData;
 use types::Sides;
 
 // What a record has the results of: Clahe's parts, or a step on floats.
@@ -73,151 +71,135 @@ impl TryFrom<u8> for Op {
     }
 }
 
-// How many bytes a number has, and the one at the front of bytes with the bytes after it.
-pub(crate) trait Number: Copy {
-    const WIDTH: usize;
+// A record's bytes from a place on; 0 beyond its end.
+fn bytes_at<const N: usize>(record: &[u8], at: usize) -> [u8; N] {
+    let mut bytes = [0; N];
+    for (i, byte) in bytes.iter_mut().enumerate() {
+        *byte = record.get(at.wrapping_add(i)).copied().unwrap_or(0);
+    }
+    bytes
+}
 
-    fn split_first(bytes: &[u8]) -> Option<(Self, &[u8])>
-        ensures { IfSome result (λ r. length r.1.now < length bytes.now) };
+// A list of a record: how many bytes an element has, how many elements there are, and where the first begins.
+#[derive(Clone, Copy)]
+pub(crate) struct List<'a> {
+    record: &'a [u8],
+    width: usize,
+    pub(crate) count: usize,
+    start: usize,
+    ghost short: { count ≤ 4096 },
+}
+
+impl<'a> List<'a> {
+    // The list at a place of a record: none of its elements if it names more than 4,096.
+    fn at(record: &'a [u8], at: usize) -> List<'a> {
+        let width = match u8::from_le_bytes(bytes_at(record, at)) {
+            8 => 8,
+            4 => 4,
+            2 => 2,
+            _ => 1,
+        };
+        let named = u32::from_le_bytes(bytes_at(record, at.wrapping_add(1)));
+        let count = if named <= 4096 { named as usize } else { 0 };
+        List {
+            record,
+            width,
+            count,
+            start: at.wrapping_add(5),
+        }
+    }
+
+    // Where an element begins.
+    fn place(&self, i: usize) -> usize {
+        self.start.wrapping_add(i.wrapping_mul(self.width))
+    }
+
+    // The list after it.
+    pub(crate) fn following(&self) -> List<'a> {
+        List::at(self.record, self.place(self.count))
+    }
+
+    // Whether the record ends with it.
+    pub(crate) fn is_last(&self) -> bool {
+        self.place(self.count) == self.record.len()
+    }
+
+    // An element, read by its type whatever the list's width is. There is one at any place, beyond the list too.
+    pub(crate) fn get<T: Number>(&self, i: usize) -> T {
+        T::of(self, i)
+    }
+
+    // The bytes of an element and those after it.
+    fn bytes<const N: usize>(&self, i: usize) -> [u8; N] {
+        bytes_at(self.record, self.place(i))
+    }
+}
+
+// A number as an element of a list.
+pub(crate) trait Number: Copy {
+    fn of(list: &List<'_>, i: usize) -> Self;
 }
 
 // Kept: a body for each width. No macro of the repository's own may write an impl.
 impl Number for u8 {
-    const WIDTH: usize = 1;
-
-    fn split_first(bytes: &[u8]) -> Option<(u8, &[u8])> {
-        let (first, rest) = bytes.split_first()?;
-        Some((*first, rest))
-    }
-}
-
-impl Number for u16 {
-    const WIDTH: usize = 2;
-
-    fn split_first(bytes: &[u8]) -> Option<(u16, &[u8])> {
-        let (first, rest) = bytes.split_first_chunk()?;
-        Some((u16::from_le_bytes(*first), rest))
+    fn of(list: &List<'_>, i: usize) -> u8 {
+        u8::from_le_bytes(list.bytes(i))
     }
 }
 
 impl Number for u32 {
-    const WIDTH: usize = 4;
-
-    fn split_first(bytes: &[u8]) -> Option<(u32, &[u8])> {
-        let (first, rest) = bytes.split_first_chunk()?;
-        Some((u32::from_le_bytes(*first), rest))
-    }
-}
-
-impl Number for u64 {
-    const WIDTH: usize = 8;
-
-    fn split_first(bytes: &[u8]) -> Option<(u64, &[u8])> {
-        let (first, rest) = bytes.split_first_chunk()?;
-        Some((u64::from_le_bytes(*first), rest))
+    fn of(list: &List<'_>, i: usize) -> u32 {
+        u32::from_le_bytes(list.bytes(i))
     }
 }
 
 impl Number for f32 {
-    const WIDTH: usize = 4;
-
-    fn split_first(bytes: &[u8]) -> Option<(f32, &[u8])> {
-        let (bits, rest) = u32::split_first(bytes)?;
-        Some((f32::of_bits(bits), rest))
+    fn of(list: &List<'_>, i: usize) -> f32 {
+        f32::of_bits(u32::from_le_bytes(list.bytes(i)))
     }
 }
 
 impl Number for f64 {
-    const WIDTH: usize = 8;
-
-    fn split_first(bytes: &[u8]) -> Option<(f64, &[u8])> {
-        let (bits, rest) = u64::split_first(bytes)?;
-        Some((f64::of_bits(bits), rest))
+    fn of(list: &List<'_>, i: usize) -> f64 {
+        f64::of_bits(u64::from_le_bytes(list.bytes(i)))
     }
 }
 
-// A list of a record.
-#[derive(Drop)]
-pub(crate) struct List<'a, T> {
-    pub count: usize,
-    elements: &'a [u8],
-    of: PhantomData<T>,
-}
-
-impl<'a, T: Number> List<'a, T> {
-    // The list at the front of bytes, and the bytes after it.
-    pub(crate) fn split_first(bytes: &'a [u8]) -> Option<(List<'a, T>, &'a [u8])> {
-        let (width, rest) = u8::split_first(bytes)?;
-        let (count, rest) = u32::split_first(rest)?;
-        let width = usize::from(width);
-        let count = count as usize;
-        if width != T::WIDTH {
-            return None;
-        }
-        let (elements, rest) = rest.split_at_checked(count * width)?;
-        let list = List {
-            count,
-            elements,
-            of: PhantomData,
-        };
-        Some((list, rest))
-    }
-
-    // The list that the bytes are, with none after it.
-    pub(crate) fn last(bytes: &'a [u8]) -> Option<List<'a, T>> {
-        let (list, rest) = List::split_first(bytes)?;
-        if rest.is_empty() { Some(list) } else { None }
-    }
-}
-
-impl<'a, T: Number> Iterator for List<'a, T> {
-    type Item = T;
-
-    ghost remaining = { λ s. at_most (length s.elements.now) };
-
-    fn next(&mut self) -> Option<T> {
-        let (first, rest) = T::split_first(self.elements)?;
-        self.elements = rest;
-        Some(first)
-    }
-}
-
-// A record: what it asks, the sides of its raster, and the bytes of its lists.
+// A whole number as wide as its list says.
 #[derive(Clone, Copy)]
-pub(crate) struct Record<'a> {
-    pub op: Op,
-    pub sides: Sides,
-    pub lists: &'a [u8],
+pub(crate) struct Whole(pub(crate) u64);
+
+impl Number for Whole {
+    fn of(list: &List<'_>, i: usize) -> Whole {
+        Whole(match list.width {
+            8 => u64::from_le_bytes(list.bytes(i)),
+            4 => u64::from(u32::from_le_bytes(list.bytes(i))),
+            2 => u64::from(u16::from_le_bytes(list.bytes(i))),
+            _ => u64::from(u8::from_le_bytes(list.bytes(i))),
+        })
+    }
 }
+
+// A record: its bytes.
+#[derive(Clone, Copy)]
+pub(crate) struct Record<'a>(pub(crate) &'a [u8]);
 
 impl<'a> Record<'a> {
-    pub(crate) fn parse(bytes: &'a [u8]) -> Option<Record<'a>> {
-        let ([code, _strategy, _mode, _reply], rest) = bytes.split_first_chunk::<4>()?;
-        let op = Op::try_from(*code).ok()?;
-        let (rows, rest) = u32::split_first(rest)?;
-        let (cols, rest) = u32::split_first(rest)?;
-        let (_lists, lists) = u8::split_first(rest)?;
-        let sides = Sides {
-            rows: rows as usize,
-            cols: cols as usize,
-        };
-        Some(Record { op, sides, lists })
+    // What it has the results of, by its code.
+    pub(crate) fn code(self) -> u8 {
+        u8::from_le_bytes(bytes_at(self.0, 0))
     }
-}
 
-// The records of a file, each behind its length. One that the file cuts off is empty.
-#[derive(Drop)]
-pub(crate) struct Records<'a>(pub &'a [u8]);
+    // The sides of its raster.
+    pub(crate) fn sides(self) -> Sides {
+        Sides {
+            rows: u32::from_le_bytes(bytes_at(self.0, 4)) as usize,
+            cols: u32::from_le_bytes(bytes_at(self.0, 8)) as usize,
+        }
+    }
 
-impl<'a> Iterator for Records<'a> {
-    type Item = &'a [u8];
-
-    ghost remaining = { λ s. at_most (length s.0.now) };
-
-    fn next(&mut self) -> Option<&'a [u8]> {
-        let (length, rest) = u32::split_first(self.0)?;
-        let (record, rest) = rest.split_at_checked(length as usize).unwrap_or((&[], &[]));
-        self.0 = rest;
-        Some(record)
+    // Its first list.
+    pub(crate) fn first(self) -> List<'a> {
+        List::at(self.0, 13)
     }
 }

@@ -1,5 +1,5 @@
 // The steps on floats: whether the engine's functions give what a record says, element by element.
-use super::record::{List, Number, Step};
+use super::record::{List, Number, Record, Step, Whole};
 use numeric::Binary;
 
 // Equal to the bit; all NaNs count as equal.
@@ -48,75 +48,75 @@ fn signed_bits(x: f64) -> u64 {
     x.as_u64().min(0x7fff_ffff_ffff_ffff)
 }
 
-// Kept: `IsAlwaysCallable` in the three functions below is the language's own clause for a closure that may be called on anything.
-// Whether a test holds of each element of a list and its result, in the record's last list.
-fn each<X: Number, Y: Number, F: Fn(X, Y) -> bool>(lists: &[u8], test: F) -> Option<bool>
+// Kept: `IsAlwaysCallable` in the four functions below is the language's own clause for a closure that may be called on anything.
+// Whether a test holds at each place of a list that has as many results, in the record's last list.
+fn hold<F: Fn(usize) -> bool>(xs: List<'_>, results: List<'_>, test: F) -> bool
     requires { F.IsAlwaysCallable test }
 {
-    let (xs, rest) = List::<X>::split_first(lists)?;
-    let results = List::<Y>::last(rest)?;
-    Some(xs.count == results.count && xs.zip(results).all(|(x, y)| test(x, y)))
+    xs.count == results.count && results.is_last() && (0..xs.count).all(test)
 }
 
-// Whether a test holds of each element of two lists and their result.
-fn each_pair<F: Fn(f64, f64, f64) -> bool>(lists: &[u8], test: F) -> Option<bool>
+// Whether a test holds of each element of a record's first list and its result.
+pub(crate) fn each<X: Number, Y: Number, F: Fn(X, Y) -> bool>(record: Record<'_>, test: F) -> bool
     requires { F.IsAlwaysCallable test }
 {
-    let (xs, rest) = List::<f64>::split_first(lists)?;
-    let (ys, rest) = List::<f64>::split_first(rest)?;
-    let results = List::<f64>::last(rest)?;
-    Some(
-        xs.count == results.count
-            && ys.count == results.count
-            && xs.zip(ys).zip(results).all(|((x, y), z)| test(x, y, z)),
-    )
+    let xs = record.first();
+    let results = xs.following();
+    hold(xs, results, |i| test(xs.get(i), results.get(i)))
+}
+
+// Whether a test holds of each element, that of the second list in its place, and its result.
+fn each_pair<F: Fn(f64, f64, f64) -> bool>(record: Record<'_>, test: F) -> bool
+    requires { F.IsAlwaysCallable test }
+{
+    let xs = record.first();
+    let ys = xs.following();
+    let results = ys.following();
+    hold(xs, results, |i| test(xs.get(i), ys.get(i), results.get(i)))
 }
 
 // Whether a test holds of each element, the two ends that it is held to, and its result.
-fn each_held<T: Number, F: Fn(T, T, T, T) -> bool>(lists: &[u8], test: F) -> Option<bool>
+fn each_held<T: Number, F: Fn(T, T, T, T) -> bool>(record: Record<'_>, test: F) -> bool
     requires { F.IsAlwaysCallable test }
 {
-    let (xs, rest) = List::<T>::split_first(lists)?;
-    let (mut ends, rest) = List::<T>::split_first(rest)?;
-    let results = List::<T>::last(rest)?;
-    let (low, high) = (ends.next()?, ends.next()?);
-    Some(xs.count == results.count && xs.zip(results).all(|(x, y)| test(x, low, high, y)))
+    let xs = record.first();
+    let ends = xs.following();
+    let results = ends.following();
+    hold(
+        xs,
+        results,
+        |i| test(xs.get(i), ends.get(0), ends.get(1), results.get(i)),
+    )
 }
 
-// Whether the engine's functions give what the lists of a step say. The engine rounds an f32 before it holds it to a byte.
-pub(crate) fn agree(step: Step, lists: &[u8]) -> Option<bool> {
+// Whether the engine's functions give what a record of a step says. The engine rounds an f32 before it holds it to a byte.
+pub(crate) fn agree(step: Step, record: Record<'_>) -> bool {
     match step {
-        Step::Sqrt => each(lists, |x, y| is_same(numeric::sqrt_f64(x), y)),
-        Step::RoundF64 => each(lists, |x: f64, y| is_same(Binary::round(x), y)),
-        Step::RoundF32 => each(lists, |x: f32, y| is_same(Binary::round(x), y)),
-        Step::Floor => each(lists, is_floor),
-        Step::AbsF64 => each(lists, |x: f64, y| is_same(Binary::abs(x), y)),
-        Step::AbsF32 => each(lists, |x: f32, y| is_same(Binary::abs(x), y)),
-        Step::Max => each_pair(lists, |a, b, y| numeric::max_f64(a, b) == y),
-        Step::Min => each_pair(lists, |a, b, y| numeric::min_f64(a, b) == y),
+        Step::Sqrt => each(record, |x, y| is_same(numeric::sqrt_f64(x), y)),
+        Step::RoundF64 => each(record, |x: f64, y| is_same(Binary::round(x), y)),
+        Step::RoundF32 => each(record, |x: f32, y| is_same(Binary::round(x), y)),
+        Step::Floor => each(record, is_floor),
+        Step::AbsF64 => each(record, |x: f64, y| is_same(Binary::abs(x), y)),
+        Step::AbsF32 => each(record, |x: f32, y| is_same(Binary::abs(x), y)),
+        Step::Max => each_pair(record, |a, b, y| numeric::max_f64(a, b) == y),
+        Step::Min => each_pair(record, |a, b, y| numeric::min_f64(a, b) == y),
         Step::ClampF64 => each_held(
-            lists,
+            record,
             |x, low, high, y| numeric::clamp_f64(x, low, high) == y,
         ),
-        Step::ClampF32 => each_held(lists, |x: f32, _low, _high, y: f32| {
+        Step::ClampF32 => each_held(record, |x: f32, _low, _high, y: f32| {
             x.round_as_u64().min(255) == y.round_as_u64()
         }),
-        Step::F64AsU64 => each(lists, is_truncated),
-        Step::F64AsI64 => each(lists, |x, n| signed_bits(x) == n),
+        Step::F64AsU64 => each(record, |x, n: Whole| is_truncated(x, n.0)),
+        Step::F64AsI64 => each(record, |x, n: Whole| signed_bits(x) == n.0),
         Step::F64AsU32 => each(
-            lists,
-            |x: f64, n: u32| x.as_u64().min(0xffff_ffff) == u64::from(n),
+            record,
+            |x: f64, n: Whole| x.as_u64().min(0xffff_ffff) == n.0,
         ),
-        Step::F64AsU16 => each(
-            lists,
-            |x: f64, n: u16| x.as_u64().min(0xffff) == u64::from(n),
-        ),
-        Step::F64AsU8 => each(lists, |x: f64, n: u8| x.as_u64().min(0xff) == u64::from(n)),
-        Step::F32AsU8 => each(lists, |x: f32, n: u8| x.as_u64().min(0xff) == u64::from(n)),
-        Step::RoundF64AsU64 => each(lists, is_rounded),
-        Step::RoundF32AsU8 => each(
-            lists,
-            |x: f32, n: u8| x.round_as_u64().min(0xff) == u64::from(n),
-        ),
+        Step::F64AsU16 => each(record, |x: f64, n: Whole| x.as_u64().min(0xffff) == n.0),
+        Step::F64AsU8 => each(record, |x: f64, n: Whole| x.as_u64().min(0xff) == n.0),
+        Step::F32AsU8 => each(record, |x: f32, n: Whole| x.as_u64().min(0xff) == n.0),
+        Step::RoundF64AsU64 => each(record, |x, n: Whole| is_rounded(x, n.0)),
+        Step::RoundF32AsU8 => each(record, |x: f32, n: Whole| x.round_as_u64().min(0xff) == n.0),
     }
 }

@@ -1,14 +1,13 @@
 // Clahe's parts: the sums of tiles, and the equalised pixels of a band that is normalised already.
 ghost use Rattle.std.specs.Prelude.{◌<◌};
 
-use super::record::{List, Record};
+use super::record::{List, Number, Record};
 use super::steps::is_same;
 use clahe::columns::column_at;
 use clahe::counts::level_of;
 use clahe::sampling::{row_at, sample, tile_position};
 use clahe::tiles::tile_side;
 use raster::Raster;
-use std::alloc::{AllocError, Global};
 use types::{Sides, WindowFloats};
 
 // The window of values that are normalised already.
@@ -19,39 +18,39 @@ const UNIT: WindowFloats = WindowFloats {
     gamma: 1.0,
 };
 
-// Equal to the bit, element by element.
-fn are_same(found: &[f64], expected: &[f64]) -> bool {
-    found.len() == expected.len() && found.iter().zip(expected).all(|(a, b)| is_same(*a, *b))
+// Equal to the bit, element by element, from a place of the list on.
+fn are_same(found: &[f64], expected: List<'_>, from: usize) -> bool {
+    found
+        .iter()
+        .enumerate()
+        .all(|(i, x)| is_same(*x, expected.get(from.wrapping_add(i))))
 }
 
-// Two whole lists: counts or tiles, and the sums that are expected.
-fn tile_lists(lists: &[u8]) -> Option<(List<'_, u32>, List<'_, f64>)> {
-    let (counts, rest) = List::split_first(lists)?;
-    Some((counts, List::last(rest)?))
+// The front of a list into a list.
+fn read<T: Number>(list: List<'_>, to: &mut [T]) {
+    for (i, x) in to.iter_mut().enumerate() {
+        *x = list.get(i);
+    }
 }
 
 // Whether a tile of the record's sides and counts has the record's sums.
 #[tactic(auto, using(clahe::proofs::Bounds::threshold_low))]
-pub(crate) fn tile_agrees(alloc: Global, record: Record<'_>) -> Result<bool, AllocError> {
-    let Sides { rows, cols } = record.sides;
-    let Some((counts, expected)) = tile_lists(record.lists) else {
-        return Ok(false);
-    };
-    let mut counts: Vec<u32> = counts.collect(alloc)?;
-    let expected: Vec<f64> = expected.collect(alloc)?;
-    let Ok(hist) = <&mut [u32; 256]>::try_from(counts.as_mut_slice()) else {
-        return Ok(false);
-    };
+pub(crate) fn tile_agrees(record: Record<'_>) -> bool {
+    let counts = record.first();
+    let expected = counts.following();
+    let Sides { rows, cols } = record.sides();
     if rows > 4096 || cols > 4096 {
-        return Ok(false);
+        return false;
     }
-    if clahe::sums::sum_of(hist) >= 0x8000_0000 {
-        return Ok(false);
+    let mut hist = [0; 256];
+    read(counts, &mut hist);
+    if clahe::sums::sum_of(&hist) >= 0x8000_0000 {
+        return false;
     }
-    clahe::clip::clip_at(hist, clahe::clip::threshold(rows * cols));
+    clahe::clip::clip_at(&mut hist, clahe::clip::threshold(rows * cols));
     let mut sums = [0.0; 256];
-    clahe::sums::write_sums(hist, &mut sums);
-    Ok(are_same(&sums, &expected))
+    clahe::sums::write_sums(&hist, &mut sums);
+    expected.is_last() && expected.count == 256 && are_same(&sums, expected, 0)
 }
 
 // The equalised value of the pixel in row r and column c, from the sums of all tiles.
@@ -64,21 +63,38 @@ fn equalised(work: &[f64; 16384], raster: &Raster, r: usize, c: usize, u: f64) -
     sample(&row_at(work, y), column_at(x), level_of(u))
 }
 
-// Whether tile k of normalised values has those sums. The levels of its pixels are left in the list.
-fn has_tile(raster: &Raster, k: usize, levels: &mut [u8], expected: &[f64]) -> bool {
-    if k >= 64 || levels.len() != raster.band.db.len() {
+// Whether tile k of normalised values has the sums that stand in a list from a place on.
+fn has_tile(raster: &Raster, k: usize, expected: List<'_>, from: usize) -> bool {
+    let mut levels = [0u8; 4096];
+    let Some(levels) = levels.get_mut(..raster.band.db.len()) else {
+        return false;
+    };
+    if k >= 64 {
         return false;
     }
     let mut sums = [0.0; 256];
     clahe::sums::tile_sums(raster, UNIT, k, &mut sums, levels);
-    are_same(&sums, expected)
+    are_same(&sums, expected, from)
 }
 
-// Whether normalised values have those values once they are equalised; invalid ones are 0.
-fn is_equalised(raster: &Raster, levels: &mut [u8], expected: &[f64]) -> bool {
+// Whether three tiles of normalised values have the sums that a list of 768 has.
+fn have_tiles(raster: &Raster, tiles: List<'_>) -> bool {
+    let expected = tiles.following();
+    expected.is_last()
+        && tiles.count == 3
+        && expected.count == 768
+        && (0..3).all(|t| has_tile(raster, tiles.get::<u32>(t) as usize, expected, 256 * t))
+}
+
+// Whether normalised values have the values of a list once they are equalised; invalid ones are 0.
+fn are_equalised(raster: &Raster, expected: List<'_>) -> bool {
     let band = raster.band;
     let sides = raster.sides;
-    if expected.len() != band.db.len() || levels.len() != band.db.len() {
+    let mut levels = [0u8; 4096];
+    let Some(levels) = levels.get_mut(..band.db.len()) else {
+        return false;
+    };
+    if sides.cols == 0 || !expected.is_last() || expected.count != band.db.len() {
         return false;
     }
     let mut work = [0.0; 16384];
@@ -92,7 +108,7 @@ fn is_equalised(raster: &Raster, levels: &mut [u8], expected: &[f64]) -> bool {
             } else {
                 equalised(&work, raster, r, c, band.db[i])
             };
-            if !is_same(found, expected[i]) {
+            if !is_same(found, expected.get(i)) {
                 return false;
             }
         }
@@ -100,58 +116,30 @@ fn is_equalised(raster: &Raster, levels: &mut [u8], expected: &[f64]) -> bool {
     true
 }
 
-// Values, marks and the lists after them.
-fn band_lists(lists: &[u8]) -> Option<(List<'_, f64>, List<'_, u8>, &[u8])> {
-    let (values, rest) = List::split_first(lists)?;
-    let (marks, rest) = List::split_first(rest)?;
-    Some((values, marks, rest))
+// Whether a test holds of the raster of a record's values and marks, and of the list after them.
+fn band_agrees<F: Fn(&Raster, List<'_>) -> bool>(record: Record<'_>, test: F) -> bool
+    requires { F.IsAlwaysCallable test }
+{
+    let values = record.first();
+    let marks = values.following();
+    let mut db = [0.0; 4096];
+    let db = &mut db[..values.count];
+    read(values, db);
+    let mut valid_mask = [0u8; 4096];
+    let valid_mask = &mut valid_mask[..marks.count];
+    read(marks, valid_mask);
+    let Ok(raster) = Raster::new(record.sides(), db, valid_mask) else {
+        return false;
+    };
+    test(&raster, marks.following())
 }
 
-// The values and the marks of a record's band, and the lists after them.
-fn read_band(
-    alloc: Global,
-    record: Record<'_>,
-) -> Result<Option<(Vec<f64>, Vec<u8>, &[u8])>, AllocError> {
-    let Some((values, marks, rest)) = band_lists(record.lists) else {
-        return Ok(None);
-    };
-    let db = values.collect(alloc)?;
-    let valid_mask = marks.collect(alloc)?;
-    Ok(Some((db, valid_mask, rest)))
-}
-
-// Whether some tiles of the record's band have the record's sums.
-pub(crate) fn tiles_agree(alloc: Global, record: Record<'_>) -> Result<bool, AllocError> {
-    let Some((db, valid_mask, rest)) = read_band(alloc, record)? else {
-        return Ok(false);
-    };
-    let Ok(raster) = Raster::new(record.sides, &db, &valid_mask) else {
-        return Ok(false);
-    };
-    let Some((tiles, expected)) = tile_lists(rest) else {
-        return Ok(false);
-    };
-    let expected: Vec<f64> = expected.collect(alloc)?;
-    let mut levels = vec![in alloc; 0u8; db.len()]?;
-    let sums = expected.chunks(256);
-    Ok(
-        tiles.count == sums.len()
-            && tiles.zip(sums).all(|(k, sums)| has_tile(&raster, k as usize, &mut levels, sums)),
-    )
+// Whether three tiles of the record's band have the record's sums.
+pub(crate) fn tiles_agree(record: Record<'_>) -> bool {
+    band_agrees(record, have_tiles)
 }
 
 // Whether the pixels of the record's band have the record's values once they are equalised.
-pub(crate) fn pixels_agree(alloc: Global, record: Record<'_>) -> Result<bool, AllocError> {
-    let Some((db, valid_mask, rest)) = read_band(alloc, record)? else {
-        return Ok(false);
-    };
-    let Ok(raster) = Raster::new(record.sides, &db, &valid_mask) else {
-        return Ok(false);
-    };
-    let Some(expected) = List::last(rest) else {
-        return Ok(false);
-    };
-    let expected: Vec<f64> = expected.collect(alloc)?;
-    let mut levels = vec![in alloc; 0u8; db.len()]?;
-    Ok(is_equalised(&raster, &mut levels, &expected))
+pub(crate) fn pixels_agree(record: Record<'_>) -> bool {
+    band_agrees(record, are_equalised)
 }

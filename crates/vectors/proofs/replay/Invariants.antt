@@ -1,10 +1,6 @@
--- `vectors::replay` is safe: it counts no more records than bytes. Assumes nothing.
-use Rattle.std.proofs.Common.{◌+◌, ◌^◌, ◌<◌, ◌≤◌, length}
+-- `vectors::replay` is safe: it counts no more records than turns. Assumes nothing.
+use Rattle.std.proofs.Common.{◌≤◌}
 use Rattle.vectors.proofs.replay.Given as goal
 
-abbrev pub invariant-loop-record : goal.invariant-loop-record
-invariant-loop-record l =
-    (goal.iterator-loop-record).can_next l.record-iterator
-    × (goal.iterator-loop-record).is_finite l.record-iterator
-    × (l.records + length l.record-iterator.0.now < 2 ^ 64)
-    × (l.differ ≤ l.records)
+abbrev pub invariant-loop : goal.invariant-loop
+invariant-loop l = (l.records ≤ l.counter) × (l.differ ≤ l.records)
