@@ -1,10 +1,11 @@
--- A list copied into another from the place `at` on (`paste` of lib.Seq): the elements afterwards. Assumes nothing.
-use mathlib.Core.Path.{◌≡◌, sym, ap, ◌∙◌}
+-- A list copied into another from the place `at` on (`paste` of lib.Seq): the loop, and the elements afterwards. Assumes nothing.
+use mathlib.Core.Path.{◌≡◌, refl, sym, ap, ◌∙◌}
 use mathlib.Core.List.{List, ◌++◌}
 use Prim.Native.Nat.{ℕ, ◌+◌, ◌-◌, ◌≤◌, ◌<◌}
+use native.Mathlib.Numerals.{add-one}
 use native.Mathlib.Omega.{arith}
-use lib.ListN.{length, take, drop, get_or, get_or-append}
-use lib.Seq.{paste, length_paste_head, length-take-le, take-length, get_or-append-add, get_or-take, get_or-drop}
+use lib.ListN.{length, set, take, drop, get_or, length-set, get_or-append}
+use lib.Seq.{paste, paste-zero, paste-suc, length_paste_head, length-take-le, take-length, get_or-append-add, get_or-take, get_or-drop}
 
 module _ {A : Type 0} (z : A) (p : List A) (at : ℕ) (q : List A) (h : at + length q ≤ length p) where
   abbrev head : List A
@@ -32,3 +33,22 @@ module _ {A : Type 0} (z : A) (p : List A) (at : ℕ) (q : List A) (h : at + len
       ap (λ (m : ℕ). get_or (paste p at q (length q)) m z) (omega (arith, head-length))
       ∙ get_or-append-add head (drop (at + length q) p) (k - (at + length q)) z
       ∙ get_or-drop (at + length q) p (k - (at + length q)) z ∙ ap (λ (m : ℕ). get_or p m z) (omega arith)
+
+module _ {A : Type 0} (p : List A) (at : ℕ) (q : List A) where
+  -- the first i of q are copied
+  abbrev pub Copied : List A → ℕ → Type 0
+  Copied to i = (i ≤ length q) × (length to ≡ length p) × (to ≡ paste p at q i)
+
+  pub copied_none : Copied p 0
+  copied_none = (omega arith, refl, paste-zero p at q)
+
+  -- a store at at + i
+  pub copied_step : (z : A) (to : List A) (i : ℕ) → at + length q ≤ length p → i < length q → Copied to i → Copied (set to (at + i) (get_or q i z)) (i + 1)
+  copied_step z to i h l t = (
+    omega arith,
+    length-set to (at + i) (get_or q i z) ∙ t.1,
+    ap (λ (r : List A). set r (at + i) (get_or q i z)) t.2 ∙ paste-suc p at q i z (omega arith) l ∙ ap (paste p at q) (sym (add-one i)),
+  )
+
+  pub copied_all : (to : List A) (i : ℕ) → Copied to i → length q ≤ i → to ≡ paste p at q (length q)
+  copied_all to i t h = let e : i ≡ length q = omega arith in t.2 ∙ ap (paste p at q) e
