@@ -12,11 +12,10 @@ use Rattle.std.specs.Prelude.{Option, Some, None}
 use Rattle.spec.specs.Gamma.{BitDepth, U16, grey_value}
 use Rattle.spec.specs.Grey.{black, values}
 use Rattle.spec.specs.Lists.{lowest, highest}
-use Rattle.spec.specs.Pixels.{Pixel, pixels}
+use Rattle.spec.specs.Pixels.{Pixel}
 use Rattle.spec.specs.Strategies.{is_clahe}
 use Rattle.spec.specs.Stretch.{stretch_byte, stretch}
 use Rattle.spec.specs.Value.{full16, value_of, paint}
-use Rattle.raster.proofs.Bands.{pixels-length}
 use Rattle.autoscale.specs.Painted.{plain_values}
 
 -- outside Clahe neither the strategy nor the sides matter
@@ -63,14 +62,13 @@ stretch-zeros : {A : Type 0} (xs : List A) → stretch (map (λ x. 0) xs) ≡ ma
 unfolding stretch
 stretch-zeros xs = ap (λ (h : ℕ). map (stretch_byte (lowest 65535 (map (λ x. 0) xs)) h) (map (λ x. 0) xs)) (no_highest xs) ∙ each-zero (lowest 65535 (map (λ x. 0) xs)) xs
 
--- without a window the values of a band of n pixels are zeros, stretched or not
-module _ (depth : BitDepth) (w : Option WindowFloats) (is : w ≡ None) (m : List ℕ) (d : List Float) (n : ℕ) (lm : length m ≡ length d) (ld : length d ≡ n) (out : List ℕ) (blank : out ≡ replicate n 0) where
-  zeros_of : out ≡ map (λ x. 0) (pixels m d)
-  zeros_of = blank ∙ ap (λ (k : ℕ). replicate k 0) (sym (pixels-length m d lm ∙ ld)) ∙ sym (zeros (pixels m d))
+-- without a window a band is all zeros, stretched or not
+pub left_plain : (depth : BitDepth) (w : Option WindowFloats) (px : List Pixel) (n : ℕ) → NoWindow w → length px ≡ n → replicate n 0 ≡ plain_values depth px w
+unfolding values black
+left_plain depth (Some window) px n h e = absurd (h window refl)
+left_plain depth None px n h e = rw (← e) (sym (zeros px))
 
-  pub left_plain : out ≡ plain_values depth (pixels m d) w
-  unfolding values black
-  left_plain = zeros_of ∙ sym (ap (plain_values depth (pixels m d)) is)
-
-  pub left_stretched : out ≡ stretch (plain_values depth (pixels m d) w)
-  left_stretched = zeros_of ∙ sym (stretch-zeros (pixels m d)) ∙ ap stretch (sym zeros_of ∙ left_plain)
+pub left_stretched : (depth : BitDepth) (w : Option WindowFloats) (px : List Pixel) (n : ℕ) → NoWindow w → length px ≡ n → replicate n 0 ≡ stretch (plain_values depth px w)
+unfolding values black
+left_stretched depth (Some window) px n h e = absurd (h window refl)
+left_stretched depth None px n h e = rw (← e) (sym (stretch-zeros px ∙ zeros px))

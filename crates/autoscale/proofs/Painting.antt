@@ -7,7 +7,8 @@ use native.Mathlib.Nat.{add-zero, suc_inj, le_of_suc-le-suc, not-suc-le-zero}
 use native.Mathlib.Omega.{arith}
 use borrow.Author.Tests.{ne_eqb}
 use borrow.Rule.Slice.PartMut.{put_mid}
-use lib.Dec.{eqb}
+use lib.Dec.{eqb, leb, le→leb}
+use lib.Ieee.Bits.{is_true}
 use lib.ListN.{length, take, drop, set, get_or, replicate, length-drop, length-map, drop_of_length-le}
 use lib.Seq.{get_or-drop, length-take-le, take-add, take_all}
 use Rattle.std.specs.Prelude.{Some, None, position}
@@ -88,9 +89,10 @@ module _ (low high range : Float) (px : List Pixel) where
   curve-painted (suc (suc (suc g))) h = absurd (omega arith)
 
   -- by the straight line
-  pub straight_painted : map (paint (value_of full8 low high range)) px ≡ map (paint (curved 3 low high range)) px
+  pub straight_painted : (g : ℕ) → 3 ≤ g → map (paint (value_of full8 low high range)) px ≡ map (paint (curved g low high range)) px
   unfolding curved
-  straight_painted = refl
+  straight_painted g h =
+      sym (ap (λ (b : Bool). map (paint (λ v. cond b (value_of full8 low high range v) (gamma_value (over g) (under g) (normalized low high range v)))) px) (is_true (leb 3 g) (le→leb 3 g h)))
 
   pub gamma_painted : (g : ℕ) (gamma : Float) → g ≡ curve gamma → map (paint (curved g low high range)) px ≡ map (paint (grey_value U8 gamma low high range)) px
   unfolding grey_value

@@ -21,7 +21,8 @@ use Rattle.spec.specs.Pixels.{Pixel, pixels, valid_of}
 use Rattle.spec.specs.Refusals.{sides_refused, lengths_refused, marks_refused, decibels_refused}
 use Rattle.spec.specs.Strongest.{nowhere}
 use Rattle.spec.specs.Statistics.{summary, summary_of, statistics_of}
-use Rattle.spec.specs.Window.{window_floats, window_of, picture_window, read_window, autoscale_window}
+use Rattle.spec.specs.Window.{window_floats, window_of, picture_window, read_window, read_opened, autoscale_window}
+use Rattle.types.specs.Windows.{window_answer, window_in}
 use Rattle.lists.proofs.Replies.{err_by, ok_by}
 use Rattle.raster.proofs.Bands.{first_stays, first_later, first-here, first_not_here, first-none}
 use Rattle.histogram.specs.Extremes.{extremes_from}
@@ -88,11 +89,11 @@ module _ (strategy : AutoscaleStrategy) (px : List Pixel) where
   unread_good s e = ok_by (decibels_refused px) (stats_for strategy px) s Decibels e
 
   pub window-refused : (k : Refusal) → band_stats strategy px ≡ Err k → Err k ≡ band_window strategy px
-  unfolding band_window or_refused read_window
+  unfolding band_window or_refused read_opened
   window-refused k e = let h = unread_bad k e in rw (h.0, ← h.1)
 
   pub window-read : (s : HistogramStats) → band_stats strategy px ≡ Ok s → (w : Option WindowFloats) → w ≡ window_of strategy s → Ok w ≡ band_window strategy px
-  unfolding band_window or_refused read_window
+  unfolding band_window or_refused read_opened
   window-read s e w q =
       let g = unread_good s e in
       ap Ok (q ∙ ap (window_of strategy) (sym g.1) ∙ window_for strategy px) ∙ rw g.0
@@ -106,6 +107,17 @@ module _ (strategy : AutoscaleStrategy) (px : List Pixel) where
   picture-read copol s e w q =
       let g = unread_good s e in
       ap Ok (q ∙ ap (picture_window strategy copol) (sym g.1) ∙ picture_for strategy copol px) ∙ rw g.0
+
+-- ---- the answer that a window is, read, and the window in it
+pub read_answered : (w : Option WindowFloats) → read_window (window_answer w) ≡ done (window_floats w)
+unfolding read_window window_answer window_floats
+read_answered (Some w) = refl
+read_answered None = refl
+
+pub window_back : (w : Option WindowFloats) → window_in (window_answer w) ≡ w
+unfolding window_in window_answer
+window_back (Some w) = refl
+window_back None = refl
 
 -- ---- the call
 or_refused_lem : {A : Type 0} (k : ℕ) (a : Answer A) → (k ≡ 0 → ⊥) → or_refused k a ≡ refused k
@@ -127,21 +139,21 @@ module _ (strategy : AutoscaleStrategy) (rows cols : ℕ) (m : List ℕ) (d : Li
   unfolding autoscale_window
   is_call k e = ap (λ (n : ℕ). or_refused n read) e
 
-  pub call_shape : (k : Refusal) → refusal_number k ≡ first_of 1 shape → (refusal_number k ≡ 0 → ⊥) → read_window (Err k) ≡ autoscale_window strategy rows cols m d
-  unfolding read_window
+  pub call_shape : (k : Refusal) → refusal_number k ≡ first_of 1 shape → (refusal_number k ≡ 0 → ⊥) → read_opened (Err k) ≡ autoscale_window strategy rows cols m d
+  unfolding read_opened
   call_shape refusal e n = let k = refusal_number refusal in sym (is_call k (sym (first_stays 1 shape (decibels_refused px ∷ []) (λ z. n (e ∙ z))) ∙ sym e) ∙ or_refused_lem k read n)
 
-  pub call_band : first_of 1 shape ≡ 0 → (w : Result (Option WindowFloats) Refusal) → w ≡ band_window strategy px → read_window w ≡ autoscale_window strategy rows cols m d
-  unfolding band_window or_refused read_window refusal_number
-  call_band good w e = ap read_window e ∙ go (decibels_refused px) refl
+  pub call_band : first_of 1 shape ≡ 0 → (w : Result (Option WindowFloats) Refusal) → w ≡ band_window strategy px → read_opened w ≡ autoscale_window strategy rows cols m d
+  unfolding band_window or_refused read_opened refusal_number
+  call_band good w e = ap read_opened e ∙ go (decibels_refused px) refl
     where
       tests : first_of 1 (sides_refused rows cols ∷ lengths_refused rows cols m d ∷ marks_refused m ∷ decibels_refused px ∷ []) ≡ first_of 4 (decibels_refused px ∷ [])
       tests = first_later 0 shape (decibels_refused px ∷ []) good
 
-      go : (b : Bool) → decibels_refused px ≡ b → read_window (cond b (Err Decibels) (Ok (window_of strategy (statistics_of px)))) ≡ autoscale_window strategy rows cols m d
+      go : (b : Bool) → decibels_refused px ≡ b → read_opened (cond b (Err Decibels) (Ok (window_of strategy (statistics_of px)))) ≡ autoscale_window strategy rows cols m d
       go true f = sym (is_call 4 (tests ∙ first-here 4 (decibels_refused px) [] f) ∙ four)
         where
-          four : or_refused 4 read ≡ read_window (Err Decibels)
+          four : or_refused 4 read ≡ read_opened (Err Decibels)
           four = refl
       go false f = sym (is_call 0 (tests ∙ first_not_here 4 (decibels_refused px) [] f ∙ first-none 5) ∙ none)
         where

@@ -10,11 +10,12 @@ ghost use Rattle.raster.specs.Bands.{pixels_of};
 ghost use Rattle.spec.specs.Stretch as Stretch;
 ghost use Rattle.spec.specs.Gamma.{U8, U16};
 ghost use Rattle.spec.specs.Window as Window;
+ghost use Rattle.types.specs.Windows.{window_in};
 ghost use Rattle.autoscale.specs.Painted.{plain_values, opens};
 
 use raster::{Band, Raster};
 use stretch::Ends;
-use types::{AutoscaleStrategy, Clip, HistogramStats, Refusal, Sides, WindowFloats};
+use types::{AutoscaleStrategy, Clip, HistogramStats, Refusal, Sides, WindowAnswer, WindowFloats};
 
 // A clip with its range, none without a valid pixel.
 #[tactic(auto, unfolding(spec::specs::Window::opened))]
@@ -56,44 +57,61 @@ pub(crate) fn picture_window(
     )
 }
 
+// The window of a raster, or what refuses it: refusals 1 to 4.
+fn accepted_window(
+    strategy: AutoscaleStrategy,
+    sides: Sides,
+    db: &[f64],
+    valid_mask: &[u8],
+) -> Result<Option<WindowFloats>, Refusal>
+    ensures { Window.read_opened result ≡ Window.autoscale_window strategy sides.rows sides.cols valid_mask.now db.now }
+{
+    let raster = Raster::accepted(sides, db, valid_mask)?;
+    band::band_window(strategy, &raster.counted())
+}
+
 // The window call: refusals 1 to 4, then the window.
-// Kept: the sides and the two lists apart, as C lends them: what holds of them is tested here.
+// Kept: the sides and the two lists apart, as C lends them: what holds of them is tested here. Its answer is the enum that document 01 asks for.
 pub fn autoscale_window(
     strategy: AutoscaleStrategy,
     rows: usize,
     cols: usize,
     db: &[f64],
     valid_mask: &[u8],
-) -> Result<Option<WindowFloats>, Refusal>
+) -> WindowAnswer
     ensures { Window.read_window result ≡ Window.autoscale_window strategy rows cols valid_mask.now db.now }
 {
-    let raster = Raster::accepted(Sides { rows, cols }, db, valid_mask)?;
-    band::band_window(strategy, &raster.counted())
+    match accepted_window(strategy, Sides { rows, cols }, db, valid_mask) {
+        Ok(window) => WindowAnswer::of(window),
+        Err(refusal) => WindowAnswer::Refused(u8::from(refusal)),
+    }
 }
 
-// Whether a window's gamma is refused with 6, at 16 bits.
-#[tactic(auto, unfolding(spec::specs::Window::gamma_refused))]
-pub fn gamma_refused(window: Option<WindowFloats>) -> bool
-    ensures { result ≡ Window.gamma_refused window }
+// Whether a window's gamma is refused with 6, at 16 bits: not that of a blank or a refused one.
+#[tactic(auto, unfolding(spec::specs::Window::gamma_refused, types::specs::Windows::window_in))]
+pub fn gamma_refused(window: WindowAnswer) -> bool
+    ensures { result ≡ Window.gamma_refused (window_in window) }
 {
-    window.is_some_and(|window| window.gamma != 1.0)
+    let WindowAnswer::Window { gamma, .. } = window else {
+        return false;
+    };
+    gamma != 1.0
 }
 
-// Kept: three times the same two arms below. One function told its painter by a closure would be the same match, and its contract would say what the
-// closure leaves in a lent list, more than each arm that it saves.
+// Kept: three times the same start below, by `let .. else` as document 01 asks for it here: a blank window leaves first. One function told its painter by a
+// closure would have the same start, and its contract would say what the closure leaves in a lent list, more than each start that it saves.
 // The greys of a band at 8 bits from its window, outside Clahe: painted, then stretched between the least and the greatest of all bytes.
 pub fn plain_greys_u8(band: &Band, window: Option<WindowFloats>, out: &mut [u8])
     requires fact_1 { length band.now.db.now ≡ length out.old }
     requires fact_2 { opens U8 window ≡ true }
     ensures { out.new ≡ Stretch.stretch (plain_values U8 (pixels_of band.now) window) }
 {
-    match window {
-        Some(window) => {
-            paint::paint_u8(band, window, out);
-            Ends::of(out).stretch_bytes(out);
-        }
-        None => out.fill(0),
-    }
+    let Some(window) = window else {
+        out.fill(0);
+        return;
+    };
+    paint::paint_u8(band, window, out);
+    Ends::of(out).stretch_bytes(out);
 }
 
 // The values of a band at 8 bits from its window, not stretched, as the Tamed picture path has it.
@@ -102,10 +120,11 @@ pub fn autoscale_db_image_tamed_synrgb_u8(band: &Band, window: Option<WindowFloa
     requires fact_2 { opens U8 window ≡ true }
     ensures { out.new ≡ plain_values U8 (pixels_of band.now) window }
 {
-    match window {
-        Some(window) => paint::paint_u8(band, window, out),
-        None => out.fill(0),
-    }
+    let Some(tamed_window) = window else {
+        out.fill(0);
+        return;
+    };
+    paint::paint_u8(band, tamed_window, out);
 }
 
 // The values of a band at 16 bits from its window, outside Clahe.
@@ -114,8 +133,9 @@ pub fn plain_values_u16(band: &Band, window: Option<WindowFloats>, out: &mut [u1
     requires fact_2 { opens U16 window ≡ true }
     ensures { out.new ≡ plain_values U16 (pixels_of band.now) window }
 {
-    match window {
-        Some(window) => paint::paint_blocks(band, window, out),
-        None => out.fill(0),
-    }
+    let Some(straight_window) = window else {
+        out.fill(0);
+        return;
+    };
+    paint::paint_blocks(band, straight_window, out);
 }

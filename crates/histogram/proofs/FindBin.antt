@@ -8,10 +8,9 @@ use native.Mathlib.Numerals.{add-one}
 use native.Mathlib.Omega.{arith}
 use borrow.Author.Tests.{lt-ltb, le-ltb}
 use lib.Dec.{ltb}
-use lib.ListN.{length, get_or, drop, take, length-drop}
+use lib.ListN.{length, get_or, drop, length-drop}
 use lib.Seq.{drop-cons, drop-length}
 use lib.Ieee.{Float}
-use Rattle.std.proofs.lemmas.List.{get_or-take, length-take-le}
 use Rattle.types.specs.declared.BinRank.{BinRank}
 use Rattle.types.specs.declared.Moments.{Moments}
 use Rattle.types.specs.declared.Percentile.{Percentile}
@@ -63,17 +62,6 @@ module _ (t before : ℕ) where
     pub find_bin_next : i + 1 < length hist → before + get_or hist i 0 ≤ t → find_bin t before i (drop i hist) ≡ find_bin t (before + get_or hist i 0) (i + 1) (drop (i + 1) hist)
     find_bin_next k g =
         rw add-one (ap (find_bin t before i) (drop-cons hist i 0 l) ∙ find_bin-on i (get_or hist i 0) (drop (suc i) hist) (omega (arith, length-drop (suc i) hist)) g)
-
--- of n bins and the last, by the walk over the n
-module _ (hist : List ℕ) (n i : ℕ) (e : length hist ≡ n + 1) where
-  first_length : length (take n hist) ≡ n
-  first_length = length-take-le n hist (omega arith)
-
-  pub before_last : i < length (take n hist) → (i + 1 < length hist) × (get_or (take n hist) i 0 ≡ get_or hist i 0)
-  before_last h = (omega (arith, first_length), get_or-take n hist i 0 (omega (arith, first_length)))
-
-  pub last_place : i ≤ length (take n hist) → length (take n hist) ≤ i → n ≡ i
-  last_place g h = omega (arith, first_length)
 
 -- ---- where the walk ends
 

@@ -7,7 +7,7 @@ ghost use Rattle.pipeline.specs.Windows.{window_tiles_refused, grey_window, grey
 use crate::scene::Scene;
 use crate::strategies;
 use raster::Raster;
-use types::{AutoscaleStrategy, CoPol, PictureWindows, Refusal, Sides, WindowFloats};
+use types::{AutoscaleStrategy, CoPol, PictureWindows, Refusal, Sides, WindowAnswer, WindowFloats};
 
 // 5: whether Clahe refuses a side, of a raster with this window.
 fn window_tiles_refused(
@@ -46,7 +46,7 @@ pub(crate) fn grey_window_u16(
     ensures { read result ≡ grey_window16 strategy raster.now.sides (pixels_of raster.now.band) }
 {
     let window = grey_window(raster, strategy)?;
-    if autoscale::gamma_refused(window) {
+    if autoscale::gamma_refused(WindowAnswer::of(window)) {
         return Err(Refusal::Gamma);
     }
     Ok(window)

@@ -8,7 +8,7 @@ ghost use Rattle.quicklook.specs.Calls as Calls;
 ghost use Rattle.quicklook.specs.Numbers.{kept, whole_of, floats_of, blank_of, floats_of_window};
 
 use super::replies;
-use types::{AutoscaleStrategy, HistogramStats};
+use types::{AutoscaleStrategy, HistogramStats, WindowAnswer};
 
 // The record's whole numbers and its floats, in its order.
 fn put_statistics(stats: HistogramStats, whole: &mut [u64; 5], floats: &mut [f64; 15])
@@ -93,17 +93,22 @@ fn put_window(
     ensures floats { floats.new ≡ after floats_of_window (Window.autoscale_window strategy rows cols valid_mask.now db.now) floats.old }
 {
     match autoscale::autoscale_window(strategy, rows, cols, db, valid_mask) {
-        Ok(Some(window)) => {
+        WindowAnswer::Window {
+            low,
+            high,
+            range,
+            gamma,
+        } => {
             *blank = 0;
-            *floats = [window.low, window.high, window.range, window.gamma];
+            *floats = [low, high, range, gamma];
             0
         }
-        Ok(None) => {
+        WindowAnswer::Blank => {
             *blank = 1;
             *floats = [0.0, 0.0, 0.0, 0.0];
             0
         }
-        Err(refusal) => u8::from(refusal),
+        WindowAnswer::Refused(k) => k,
     }
 }
 

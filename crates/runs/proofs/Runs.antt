@@ -4,7 +4,7 @@ use mathlib.Core.List.{List, [], ◌∷◌}
 use Prim.Native.Nat.{ℕ, zero, suc}
 use native.Mathlib.Omega.{arith}
 use lib.ListN.{length, get_or}
-use lib.Ieee.{Float, nan}
+use lib.Ieee.{Float}
 use Rattle.types.specs.declared.AutoscaleStrategy.{AutoscaleStrategy}
 use Rattle.types.specs.declared.Lent.{Lent}
 use Rattle.types.specs.declared.refusal.Refusal.{Refusal}
@@ -13,8 +13,9 @@ use Rattle.types.specs.Replies.{refusal_number}
 use Rattle.types.specs.declared.CoPol.{CoPol}
 use Rattle.types.specs.declared.PictureChoices.{PictureChoices}
 use Rattle.types.specs.declared.SyntheticRgbMode.{SyntheticRgbMode}
-use Rattle.types.specs.declared.WindowFloats.{WindowFloats}
-use Rattle.std.specs.Prelude.{Option, Some, None, Result, Ok, Err}
+use Rattle.types.specs.declared.window.WindowAnswer.{WindowAnswer}
+use Rattle.types.specs.declared.window.WindowAnswer.TheVariants.{Window, Blank, Refused}
+use Rattle.std.specs.Prelude.{Result, Ok, Err}
 use Rattle.spec.specs.Altered.{Altered}
 use Rattle.spec.specs.Answer.{Answer, refused, done, or_refused, answer, number, after, read}
 use Rattle.spec.specs.Colour.{bytes_of}
@@ -23,7 +24,7 @@ use Rattle.spec.specs.Copol.{synthetic_rgb_picture_copol}
 use Rattle.spec.specs.Picture.{Picture, composed}
 use Rattle.spec.specs.Places.{moved}
 use Rattle.spec.specs.Curve.{compute_histogram}
-use Rattle.spec.specs.Window.{window_floats, read_window}
+use Rattle.spec.specs.Window.{read_window}
 use Rattle.lists.proofs.Replies.{done-same}
 use Rattle.demands.specs.GreyOrder.{OutsideClahe, Ranked}
 use Rattle.demands.specs.Reordering.{Reorders, AreF64, moved_triples, MovedBy, same_refusal, both_done}
@@ -59,25 +60,17 @@ read-same (Ok a) (Err s) e = cc
 read-same (Err r) (Ok b) e = cc
 read-same (Err r) (Err s) e = ap Err (refusal-same r s (ap number e))
 
--- a window by its floats
-window_by : List Float → Option WindowFloats
-window_by [] = None
-window_by (x ∷ xs) = Some (record { low = x; high = get_or xs 0 nan; range = get_or xs 1 nan; gamma = get_or xs 2 nan })
-
-by-floats : (w : Option WindowFloats) → window_by (window_floats w) ≡ w
-unfolding window_by window_floats
-by-floats (Some w) = refl
-by-floats None = refl
-
-floats-same : (v w : Option WindowFloats) → window_floats v ≡ window_floats w → v ≡ w
-floats-same v w e = sym (by-floats v) ∙ ap window_by e ∙ by-floats w
-
-pub read-window-same : (a b : Result (Option WindowFloats) Refusal) → read_window a ≡ read_window b → a ≡ b
-unfolding read_window number
-read-window-same (Ok v) (Ok w) e = ap Ok (floats-same v w (done-same _ _ e))
-read-window-same (Ok v) (Err s) e = cc
-read-window-same (Err r) (Ok w) e = cc
-read-window-same (Err r) (Err s) e = ap Err (refusal-same r s (ap number e))
+pub read-window-same : (a b : WindowAnswer) → read_window a ≡ read_window b → a ≡ b
+unfolding read_window
+read-window-same (Window l h r g) (Window l' h' r' g') e = cc
+read-window-same (Window l h r g) Blank e = cc
+read-window-same (Window l h r g) (Refused k) e = cc
+read-window-same Blank (Window l' h' r' g') e = cc
+read-window-same Blank Blank e = cc
+read-window-same Blank (Refused k) e = cc
+read-window-same (Refused k) (Window l' h' r' g') e = cc
+read-window-same (Refused k) Blank e = cc
+read-window-same (Refused k) (Refused l) e = cc
 
 -- ---- two runs of the call for the bins, likewise
 

@@ -6,7 +6,7 @@ ghost use Rattle.spec.specs.Answer.{reply_number};
 use crate::TwoRuns;
 use types::{
     AutoscaleStrategy, CoPol, HistogramStats, PictureChoices, PictureWindows, Refusal, Sides,
-    WindowFloats,
+    WindowAnswer,
 };
 
 // The statistics call: the same refusal or the same record.
@@ -47,7 +47,7 @@ fn altered_window(
     db: &[f64],
     db_altered: &[f64],
     valid_mask: &[u8],
-) -> TwoRuns<Result<Option<WindowFloats>, Refusal>>
+) -> TwoRuns<WindowAnswer>
     ensures window { Altered valid_mask.now db.now db_altered.now → result.first ≡ result.second }
 {
     let first = autoscale::autoscale_window(strategy, sides.rows, sides.cols, db, valid_mask);

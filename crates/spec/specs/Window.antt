@@ -2,6 +2,8 @@
 use Rattle.std.specs.Prelude.{ℕ, Bool, true, false, cond, List, [], ◌∷◌, eqb, Float, Option, Some, None, Result, Ok, Err}
 use Rattle.std.specs.Float.{binary64}
 use Rattle.std.specs.Float.Ieee.{add, sub, mul, div, lt, ne, of_bits}
+use Rattle.types.specs.declared.window.WindowAnswer.{WindowAnswer}
+use Rattle.types.specs.declared.window.WindowAnswer.TheVariants.{Window, Blank, Refused}
 use Rattle.types.specs.declared.AutoscaleStrategy.{AutoscaleStrategy}
 use Rattle.types.specs.declared.AutoscaleStrategy.TheVariants.{Standard, Robust, Adaptive, Equalized, Clahe, Tamed, Default}
 use Rattle.types.specs.declared.Clip.{Clip}
@@ -131,10 +133,16 @@ unfoldable pub window_floats : Option WindowFloats → List Float
 window_floats (Some w) = w.low ∷ w.high ∷ w.range ∷ w.gamma ∷ []
 window_floats None = []
 
--- document 01's number and values for each case of the window call's reply
-unfoldable pub read_window : Result (Option WindowFloats) Refusal → Answer (List Float)
-read_window (Ok w) = done (window_floats w)
-read_window (Err refusal) = refused (refusal_number refusal)
+-- document 01's number and values for each case of the window call's answer
+unfoldable pub read_window : WindowAnswer → Answer (List Float)
+read_window (Window low high range gamma) = done (low ∷ high ∷ range ∷ gamma ∷ [])
+read_window Blank = done []
+read_window (Refused k) = refused k
+
+-- the same of a window, or what refuses it, that is no answer yet
+unfoldable pub read_opened : Result (Option WindowFloats) Refusal → Answer (List Float)
+read_opened (Ok w) = done (window_floats w)
+read_opened (Err refusal) = refused (refusal_number refusal)
 
 -- the window call: refusals 1 to 4, then the window
 unfoldable pub autoscale_window : AutoscaleStrategy → ℕ → ℕ → List ℕ → List Float → Answer (List Float)

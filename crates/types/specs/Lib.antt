@@ -1,2 +1,3 @@
 pub mod Replies
 pub mod Codes
+pub mod Windows

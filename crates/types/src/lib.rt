@@ -2,9 +2,11 @@
 // The enums of types.rs that the calls take, in its order, what refuses a call, and the records that calls and their parts give.
 mod codes; // codes.rt: the codes of the enums, and what names nothing
 mod refusal; // refusal.rt: the rows of the table of replies
+mod window; // window.rt: the answer of the window call
 
 pub use codes::UnknownCode;
 pub use refusal::Refusal;
+pub use window::WindowAnswer;
 
 #[derive(Clone, Copy, Debug, PartialEq, Eq)]
 pub enum PolarizationOperation {
@@ -74,7 +76,7 @@ pub struct HistogramStats {
     pub max_col: usize,
 }
 
-// "A window answer is a window with its floats, or blank": its floats, as painting takes them. A blank one is no window.
+// A window's floats, as painting takes them. Of a blank band there are none.
 #[derive(Clone, Copy, Debug, PartialEq)]
 pub struct WindowFloats {
     pub low: f64,

@@ -1,17 +1,21 @@
 -- `autoscale::autoscale_db_image_tamed_synrgb_u8` meets its contract. Assumes nothing.
-use mathlib.Core.Path.{sym, ◌∙◌}
+use mathlib.Core.Path.{◌≡◌, sym, ◌∙◌}
 use borrow.Author.Rules.{rules}
-use lib.ListN.{length}
+use lib.ListN.{length, replicate}
 use Rattle.spec.specs.Pixels.{pixels}
+use Rattle.raster.proofs.Bands.{pixels-length}
 use Rattle.spec.specs.Gamma.{U8}
 use Rattle.autoscale.proofs.Painted.{plain-window, left_plain}
 use Rattle.autoscale.proofs.autoscale_db_image_tamed_synrgb_u8.Goals as goal
 
-pub returns-in-None : goal.returns-in-None
-returns-in-None c =
+pub returns-in_default : goal.returns-in_default
+returns-in_default c =
     let a = c.args in
-    left_plain U8 a.window c.in-None.is a.band.now.valid_mask.now a.band.now.db.now (length a.out.now) a.band.now.alike c.requires.fact_1 c.fill.new.self (search rules)
+    let m = a.band.now.valid_mask.now in
+    let d = a.band.now.db.now in
+    let blank : c.fill.new.self ≡ replicate (length a.out.now) 0 = search rules in
+    blank ∙ left_plain U8 a.window (pixels m d) (length a.out.now) c.in_default.not-Some (pixels-length m d a.band.now.alike ∙ c.requires.fact_1)
 
-pub returns-in-Some : goal.returns-in-Some
-returns-in-Some c =
-    c.paint_u8.ensures ∙ sym (plain-window c.args.window c.in-Some.window c.in-Some.is U8 (pixels c.args.band.now.valid_mask.now c.args.band.now.db.now))
+pub returns : goal.returns
+returns c =
+    c.paint_u8.ensures ∙ sym (plain-window c.args.window c.in-Some.tamed_window c.in-Some.is U8 (pixels c.args.band.now.valid_mask.now c.args.band.now.db.now))

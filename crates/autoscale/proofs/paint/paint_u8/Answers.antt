@@ -1,5 +1,6 @@
 -- `autoscale::paint::paint_u8` meets its contract. Assumes nothing.
 use mathlib.Core.Path.{◌∙◌}
+use native.Mathlib.Omega.{arith}
 use Rattle.spec.specs.Pixels.{pixels}
 use Rattle.gamma.specs.Curved.{number}
 use Rattle.autoscale.proofs.Painting.{straight_painted, gamma_painted}
@@ -14,4 +15,4 @@ pub returns-in-None : goal.returns-in-None
 returns-in-None c =
     let w = c.args.window in
     let px = pixels c.args.band.now.valid_mask.now c.args.band.now.db.now in
-    c.paint_blocks.ensures ∙ straight_painted w.low w.high w.range px ∙ gamma_painted w.low w.high w.range px 3 w.gamma c.in-None.ensures
+    c.paint_blocks.ensures ∙ straight_painted w.low w.high w.range px 3 (omega arith) ∙ gamma_painted w.low w.high w.range px 3 w.gamma c.in-None.ensures

@@ -1,26 +1,27 @@
 -- `histogram::percentile::find_bin` meets its contract. Assumes nothing.
-use mathlib.Core.Path.{sym, ◌∙◌}
+use mathlib.Core.Path.{refl, sym, ◌∙◌}
 use native.Mathlib.Omega.{arith}
-use Rattle.histogram.proofs.FindBin.{find_bin-here, find_bin-last, find_bin_next, before_last, last_place}
+use Rattle.histogram.proofs.FindBin.{find_bin-here, find_bin-last, find_bin_next}
 use Rattle.histogram.proofs.percentile.find_bin.Goals as goal
 
-pub loop-bin-preserved : goal.loop-bin-preserved
-loop-bin-preserved c =
+pub loop-size-init : goal.loop-size-init
+loop-size-init c = (omega arith, omega arith, refl)
+
+pub loop-size-preserved : goal.loop-size-preserved
+loop-size-preserved c =
     let a = c.args in
-    let b = before_last a.hist.now 4095 c.loop-bin.bin (omega arith) c.loop-bin-test.true in
-    rw (c.from.ensures ∙ b.1) (
-      omega (arith, c.from.ensures, b.1),
-      c.loop-bin.invariant.1 ∙ find_bin_next a.target c.loop-bin.before a.hist.now c.loop-bin.bin (omega arith) b.0 (omega (arith, c.from.ensures, b.1)),
+    rw c.from.ensures (
+      omega arith,
+      omega (arith, c.from.ensures, c.if-target-next.false),
+      c.loop-size.invariant.2 ∙ find_bin_next a.target c.loop-size.before a.hist.now c.loop-size.bin (omega arith) (omega arith) (omega (arith, c.from.ensures, c.if-target-next.false)),
     )
 
 pub returns-then-target-next : goal.returns-then-target-next
 returns-then-target-next c =
     let a = c.args in
-    let b = before_last a.hist.now 4095 c.loop-bin.bin (omega arith) c.loop-bin-test.true in
-    rw b.1 (sym (c.loop-bin.invariant.1 ∙ find_bin-here a.target c.loop-bin.before a.hist.now c.loop-bin.bin (omega arith) (omega (arith, c.from.ensures, b.1))))
+    sym (c.loop-size.invariant.2 ∙ find_bin-here a.target c.loop-size.before a.hist.now c.loop-size.bin (omega arith) (omega (arith, c.from.ensures, c.if-target-next.true)))
 
-pub returns : goal.returns
-returns c =
+pub returns-then-bin-eq4095 : goal.returns-then-bin-eq4095
+returns-then-bin-eq4095 c =
     let a = c.args in
-    let e = last_place a.hist.now 4095 c.loop-bin.bin (omega arith) c.loop-bin.auto.bin-end c.loop-bin-test.false in
-    rw e (sym (c.loop-bin.invariant.1 ∙ find_bin-last a.target c.loop-bin.before a.hist.now c.loop-bin.bin (omega arith) (omega arith)))
+    sym (c.loop-size.invariant.2 ∙ find_bin-last a.target c.loop-size.before a.hist.now c.loop-size.bin (omega arith) (omega arith))
