@@ -62,7 +62,7 @@ pub record BoundedWindow (low high range : Float) : Type 0 where
   pub range_bounded : Between 100000 range
   pub range_least : T (le (of_count 1) range)
 
--- a blank window or a refusal has no floats
+-- a blank window has no floats
 abbrev pub BoundedAnswer : Option WindowFloats → Type 0
 BoundedAnswer (Some w) = BoundedWindow w.low w.high w.range
 BoundedAnswer None = Unit

@@ -34,7 +34,7 @@ row_inside : (q rows cols left width : ℕ) → q < rows → left + width ≤ co
 row_inside q rows cols left width h k = omega (arith, next_times q cols, mul-le-mul_right {m = q + 1} {n = rows} cols (omega arith))
 
 -- a tile's row lies in the raster
-pub tile_row : (rows cols ty tx top height left width r : ℕ) → top ≡ tile_start rows ty → height ≡ tile_size rows ty → left ≡ tile_start cols tx → width ≡ tile_size cols tx
+tile_row : (rows cols ty tx top height left width r : ℕ) → top ≡ tile_start rows ty → height ≡ tile_size rows ty → left ≡ tile_start cols tx → width ≡ tile_size cols tx
     → r < height → (width ≡ 0 → ⊥) → (top + r) * cols + left + width ≤ rows * cols
 tile_row rows cols ty tx top height left width r a b c d h z =
     row_inside (top + r) rows cols left width (omega (arith, tile_inside rows ty r (omega arith))) (omega (arith, z, tile_end cols tx (omega (arith, z))))

@@ -131,9 +131,6 @@ module _ {p q : ℕ} {xs : List Float} (row : Row p q xs) where
           let w = k.within in
           subst (λ (j : ℕ). T (reaches_byte p q t j)) (let e : suc (r - 1) ≡ r = omega arith in e) (subst T ((row.each (r - 1) (omega arith)).right t f) (k.hits z))
 
-pub guess_stay : {xs : List Float} (c g : ℕ) → Nearly xs c g → c ≤ cell_of (get_or xs g nan) → Guess xs c g
-guess_stay c g n h = record { small = n.small; before = n.before; after = h }
-
 pub nearly_next : {xs : List Float} (c g : ℕ) → Guess xs c g → Nearly xs (c + 1) g
 nearly_next c g u =
     record {

@@ -5,7 +5,7 @@ use mathlib.Core.List.{List, [], ◌∷◌}
 use Prim.Native.Nat.{ℕ, zero, suc, ◌≤◌, ◌<◌}
 use native.Mathlib.Nat.{not-suc-le-zero}
 use native.Mathlib.Omega.{arith}
-use borrow.Author.Tests.{eqb-true, not-false, eq-eqb, ne_eqb}
+use borrow.Author.Tests.{eqb-true, not-false}
 use lib.Dec.{eqb}
 use Rattle.std.specs.Prelude.{Result, Ok, Err}
 use Rattle.std.specs.Result.{IsErrAnd}
@@ -97,14 +97,6 @@ or_right false t e = e
 pub not_unlike : (n m : ℕ) → unlike n m ≡ false → n ≡ m
 unfolding unlike
 not_unlike n m e = eqb-true n m (not-false (eqb n m) e)
-
-pub unlike-ne : (n m : ℕ) → (n ≡ m → ⊥) → unlike n m ≡ true
-unfolding unlike
-unlike-ne n m d = ap not (ne_eqb n m d)
-
-pub unlike-eq : (n m : ℕ) → n ≡ m → unlike n m ≡ false
-unfolding unlike
-unlike-eq n m e = ap not (eq-eqb n m e)
 
 -- ---- a call that is done
 

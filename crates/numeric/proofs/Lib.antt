@@ -3,7 +3,6 @@ pub mod Round
 pub mod Ops
 pub mod Picks
 pub mod Exact
-pub mod Casts
 pub mod Facts
 pub mod Full
 pub mod Values

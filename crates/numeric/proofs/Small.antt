@@ -19,7 +19,7 @@ use Rattle.spec.specs.Value.{full16}
 use Rattle.numeric.proofs.Order.{plus, less, le→cross, finite-between, le_of_not_lt, lt_not_ge, number_of_finite, le_right, le_trans as le_trans'}
 use Rattle.numeric.specs.Round.{big64}
 use Rattle.numeric.proofs.Facts.{holds, fails}
-use Rattle.numeric.proofs.Picks.{clamped_lo, clamped_hi, to_unsigned-le}
+use Rattle.numeric.proofs.Picks.{clamped_lo, clamped_hi}
 use Rattle.numeric.proofs.Ops.{add_rounds}
 use Rattle.numeric.proofs.Round.{Rounds}
 use Rattle.numeric.proofs.Away.{half_more, turned, up_from, down_from}
@@ -259,6 +259,3 @@ module _ {x r : Float} (c : Near x r) {cast : ℕ} (e : cast ≡ to_unsigned 64 
 -- ---- a value held to 0..full, full being at most 65535.0, is such an x, and cuts to at most what full cuts to
 pub clamp_float-small : (full v : Float) → T (le zero64 full) → T (le full full16) → T (le zero64 (clamp_float zero64 full v)) × T (le (clamp_float zero64 full v) full16)
 clamp_float-small full v h k = (clamped_lo v zero64 full h, le_trans' (clamp_float zero64 full v) full full16 (clamped_hi v zero64 full (le_right zero64 full h)) k)
-
-pub clamp_float_cut : (full v : Float) → T (le zero64 full) → to_unsigned 64 (clamp_float zero64 full v) ≤ to_unsigned 64 full
-clamp_float_cut full v h = to_unsigned-le 64 (clamp_float zero64 full v) full (clamped_hi v zero64 full (le_right zero64 full h))

@@ -1,6 +1,6 @@
 -- A strategy whose tag is one of the other six does not stand apart. Assumes nothing.
-use mathlib.Core.Path.{◌≡◌, refl, sym}
-use mathlib.Core.Bool.{true, false, true≢false}
+use mathlib.Core.Path.{◌≡◌, refl}
+use mathlib.Core.Bool.{false}
 use Rattle.types.specs.declared.AutoscaleStrategy.{AutoscaleStrategy}
 use Rattle.types.specs.declared.AutoscaleStrategy.TheVariants.{Standard, Robust, Adaptive, Equalized, Clahe, Tamed, Default}
 use Rattle.spec.specs.Strategies.{is_clahe, is_tamed}
@@ -24,13 +24,3 @@ not_tamed Equalized h = refl
 not_tamed Clahe h = refl
 not_tamed Tamed h = absurd (h refl)
 not_tamed Default h = refl
-
-pub clahe_only : (s : AutoscaleStrategy) → is_clahe s ≡ true → Clahe ≡ s
-unfolding is_clahe
-clahe_only Standard e = absurd (true≢false (sym e))
-clahe_only Robust e = absurd (true≢false (sym e))
-clahe_only Adaptive e = absurd (true≢false (sym e))
-clahe_only Equalized e = absurd (true≢false (sym e))
-clahe_only Clahe e = refl
-clahe_only Tamed e = absurd (true≢false (sym e))
-clahe_only Default e = absurd (true≢false (sym e))
